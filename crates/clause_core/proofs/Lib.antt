@@ -1,0 +1,3 @@
+pub mod RenamedTrees
+pub mod Places
+pub mod CanonicalForms
