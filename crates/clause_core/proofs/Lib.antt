@@ -1,3 +1,4 @@
 pub mod RenamedTrees
 pub mod Places
+pub mod Numbers
 pub mod CanonicalForms

@@ -1,7 +1,8 @@
 -- The places of numbers in a list, and the different numbers of a list by first occurrence.
-use Rattle.std.proofs.Common.{◌≡◌, ℕ, zero, suc, ◌<◌, ◌≤◌, ◌⊎◌, inl, inr, Bool, true, false, ◌||◌, cond, nat_eq, List, [], ◌∷◌, ◌++◌, map, length, get_or, refl, ap, ◌∙◌, sym, subst, arith}
+use Rattle.std.proofs.Common.{◌≡◌, ℕ, zero, suc, ◌<◌, ◌≤◌, ◌⊎◌, inl, inr, Bool, true, false, ◌||◌, cond, nat_eq, List, [], ◌∷◌, ◌++◌, map, length, get_or, drop, refl, ap, ◌∙◌, sym, subst, arith, ◌+◌, add-one}
 use Rattle.std.proofs.lemmas.Bool.{false≢true, or_cases, cases_Bool, cases_eq, cond_both, cond-true, cond-false, eqb-true, eqb-false, eq-eqb, ne_eqb}
-use Rattle.std.proofs.lemmas.List.{map-append}
+use Rattle.std.proofs.lemmas.List.{map-append, drop_all}
+use Rattle.std.proofs.Math.Seq.{drop-cons}
 use Rattle.std.specs.List.{list_any, AllByRecursion}
 use Rattle.clp_model.specs.declared.sort.Sort.{Sort}
 use Rattle.clp_model.specs.declared.sort.Sort.TheVariants.{Any}
@@ -135,3 +136,10 @@ module _ (f : ℕ → ℕ) (met : List ℕ) (apart : (x y : ℕ) → Member met 
   pub place_map : (ms : List ℕ) (n : ℕ) → AllByRecursion (Member met) ms → Member met n → place_in (map f ms) (f n) ≡ place_in ms n
   place_map [] n h mn = refl
   place_map (m ∷ ms) n h mn = let a = same_test m n h.0 mn in let b = place_map ms n h.1 mn in cc
+
+-- a loop's step from one number to the next
+pub place_step : (ms : List ℕ) (i n : ℕ) → i < length ms → place_in (drop i ms) n ≡ cond (nat_eq (get_or ms i 0) n) 1 (suc (place_in (drop (i + 1) ms) n))
+place_step ms i n h = ap (λ v. place_in v n) (drop-cons ms i 0 h) ∙ ap (λ k. cond (nat_eq (get_or ms i 0) n) 1 (suc (place_in (drop k ms) n))) (sym (add-one i))
+
+pub place_end : (ms : List ℕ) (i n : ℕ) → length ms ≤ i → place_in (drop i ms) n ≡ 1
+place_end ms i n h = ap (λ v. place_in v n) (drop_all i ms h)

@@ -5,7 +5,7 @@ use Rattle.clp_model.specs.declared.tree.Variable.{Variable}
 use Rattle.clp_model.specs.declared.tree.Tree.{Tree}
 use Rattle.clp_model.specs.Trees.{mapped, mapped_all, variables_in, IsApplication}
 use Rattle.clp_model.specs.Clauses.{Clause as Meaning, sort_in}
-use Rattle.clp_model.specs.Canonical.{IsCanonical, new_clause}
+use Rattle.clp_model.specs.Canonical.{place_in, IsCanonical, new_clause}
 use Rattle.term_store.specs.Trees.{tree_at, trees_at, AreIn}
 use Rattle.clause_core.specs.declared.clause.Clause.{Clause}
 use Rattle.clause_core.specs.declared.clause.RawClause.{RawClause}
@@ -14,6 +14,10 @@ use Rattle.clause_core.specs.declared.fault.ClauseFault.TheVariants as fault
 
 abbrev pub number_of : Variable → ℕ
 number_of v = v.number
+
+-- the variable with its place in a list as its number
+abbrev pub renumber : List ℕ → Variable → Variable
+renumber met v = record { number = place_in met v.number; sort = v.sort }
 
 -- the tree of a term, with the number of each variable in its place
 abbrev pub atom_at : List (Tree Variable) → ℕ → Tree ℕ

@@ -1,4 +1,4 @@
-ghost use Rattle.std.specs.Prelude.{◌≡◌, IfOk};
+ghost use Rattle.std.specs.Prelude.{◌≡◌, ◌≤◌, IfOk};
 ghost use Rattle.clp_model.specs.Canonical.{clause_size};
 ghost use Rattle.term_store.specs.Trees.{Keeps};
 ghost use Rattle.clause_core.specs.Stored.{clause_in, IsStored};
@@ -37,4 +37,35 @@ impl Clause {
             sorts: Items::from_slice(alloc, self.sorts.as_slice())?,
         })
     }
+}
+
+/// The nodes of the head and the body atoms.
+pub fn clause_size(store: &Store, c: &Clause) -> u32
+    requires { IsStored store.now c.now }
+    ensures value { result ≡ clause_size (clause_in store.now c.now) }
+    ensures small { result ≤ 4096 }
+{
+    let mut size = store.size(c.head);
+    for atom in c.atoms.as_slice() {
+        size += store.size(*atom);
+    }
+    size
+}
+
+/// A clause of the store `to` that stands for the same as a clause of the store `from`.
+pub fn copy_clause(
+    alloc: Global,
+    to: &mut Store,
+    from: &Store,
+    c: &Clause,
+) -> Result<Clause, NoMemory>
+    requires { IsStored from.now c.now }
+    ensures keeps { Keeps to.old to.new }
+    ensures same { IfOk result (λ copy. clause_in to.new copy ≡ clause_in from.now c.now) }
+    ensures stored { IfOk result (λ copy. IsStored to.new copy) }
+{
+    let head = to.copy(from, c.head)?;
+    let atoms = to.copy_all(from, c.atoms.as_slice())?;
+    let sorts = Items::from_slice(alloc, c.sorts.as_slice())?;
+    Ok(Clause { head, atoms, sorts })
 }

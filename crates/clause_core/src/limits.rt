@@ -1,0 +1,67 @@
+//! The limits of a new clause.
+
+ghost use Rattle.std.specs.Prelude.{◌≡◌, ◌∷◌, ◌↔◌, IsTrue, None, IfOk, IfErr, OnOk};
+ghost use Rattle.clp_model.specs.Trees.{total_size, greatest_depth};
+ghost use Rattle.clp_model.specs.Canonical.{variables_met, limit_past};
+ghost use Rattle.term_store.specs.Trees.{trees_at, AreIn, IsOver};
+ghost use Rattle.clause_core.specs.Stored.{atoms_at, raw_in, IsRaw, IsRefused};
+
+use crate::clause::RawClause;
+use crate::fault::ClauseFault;
+use crate::meeting::meet_all;
+use clp_model::Limit;
+use sqlite_items::Items;
+use std::alloc::Global;
+use std::cmp::max;
+use term_store::{Store, Term};
+
+const MAX_SIZE: u32 = 4096;
+
+const MAX_DEPTH: u32 = 256;
+
+const MAX_ATOMS: usize = 64;
+
+const MAX_VARIABLES: usize = 256;
+
+/// Whether a head and body atoms are together above size 4,096, or one of them above depth 256.
+fn is_large(store: &Store, head: Term, atoms: &[Term]) -> bool
+    requires { AreIn store.now (head ∷ atoms.now) }
+    ensures { IsTrue result ↔ IsOver (total_size (trees_at store.now (head ∷ atoms.now))) (greatest_depth (trees_at store.now (head ∷ atoms.now))) }
+{
+    let mut size = store.size(head);
+    let mut depth = store.depth(head);
+    for atom in atoms {
+        size += store.size(*atom);
+        depth = max(depth, store.depth(*atom));
+        if size > MAX_SIZE {
+            return true;
+        }
+    }
+    depth > MAX_DEPTH
+}
+
+/// The variables of a new clause by first occurrence, or the first limit that the clause is past.
+pub(crate) fn variables_within(
+    alloc: Global,
+    store: &Store,
+    raw: &RawClause,
+) -> Result<Items<u32>, ClauseFault>
+    requires { IsRaw store.now raw.now }
+    ensures met { IfOk result (λ met. met ≡ variables_met (atoms_at store.now (raw.now.head ∷ raw.now.atoms))) }
+    ensures within { OnOk result (limit_past (raw_in store.now raw.now) ≡ None) }
+    ensures past { IfErr result (IsRefused (raw_in store.now raw.now)) }
+{
+    if is_large(store, raw.head, raw.atoms.as_slice()) {
+        return Err(ClauseFault::TooLarge(Limit::Shape));
+    }
+    if raw.atoms.len() > MAX_ATOMS {
+        return Err(ClauseFault::TooLarge(Limit::Atoms));
+    }
+    let mut met = Items::new(alloc);
+    meet_all(store, [raw.head].as_slice(), &mut met)?;
+    meet_all(store, raw.atoms.as_slice(), &mut met)?;
+    if met.len() > MAX_VARIABLES {
+        return Err(ClauseFault::TooLarge(Limit::Variables));
+    }
+    Ok(met)
+}
