@@ -8,7 +8,7 @@ use Rattle.clp_model.specs.Trees.{mapped, mapped_all, variables, variables_in}
 use Rattle.clp_model.specs.Clauses.{Clause, sort_in}
 use Rattle.clp_model.specs.Predicates.{distinct_after}
 use Rattle.clp_model.specs.Canonical.{clause_size, clause_depth, variables_met, place_in, canonical_form, limit_past, IsCanonical}
-use Rattle.clause_core.proofs.RenamedTrees.{each_left, each_right, mapped_mapped, all_mapped_mapped, mapped_agree, all_mapped_agree, variables_in_mapped, total_size_mapped, greatest_depth_mapped}
+use Rattle.clause_core.proofs.RenamedTrees.{each_left, each_right, mapped_mapped, all_mapped_mapped, mapped_agree, all_mapped_agree, variables_in_mapped, total_size_mapped, greatest_depth_mapped, length_mapped}
 use Rattle.clause_core.proofs.Places.{Member, distinct_all, each_member, place_injective, sort_at_place, distinct_map, place_map}
 
 -- a clause without equations and rows
@@ -25,10 +25,6 @@ each_weaker P Q w (x ∷ xs) h = (w x h.0, each_weaker P Q w xs h.1)
 map_agree : {X Y Z : Type 0} (g : Y → Z) (f : X → Y) (h : X → Z) (xs : List X) → AllByRecursion (λ x. g (f x) ≡ h x) xs → map g (map f xs) ≡ map h xs
 map_agree g f h [] all = refl
 map_agree g f h (x ∷ xs) all = let a = all.0 in let b = map_agree g f h xs all.1 in cc
-
-length_mapped : {V W : Type 0} (f : V → W) (ts : List (Tree V)) → length (mapped_all f ts) ≡ length ts
-length_mapped f [] = refl
-length_mapped f (t ∷ ts) = let b = length_mapped f ts in cc
 
 -- each variable is met
 pub each_met : (atoms : List (Tree ℕ)) → AllByRecursion (Member (variables_met atoms)) (variables_in atoms)

@@ -1,5 +1,5 @@
 -- The places of numbers in a list, and the different numbers of a list by first occurrence.
-use Rattle.std.proofs.Common.{◌≡◌, ℕ, zero, suc, ◌<◌, ◌≤◌, ◌⊎◌, inl, inr, Bool, true, false, ◌||◌, cond, nat_eq, List, [], ◌∷◌, ◌++◌, map, length, get_or, drop, refl, ap, ◌∙◌, sym, subst, arith, ◌+◌, add-one}
+use Rattle.std.proofs.Common.{◌≡◌, ℕ, zero, suc, ◌<◌, ◌≤◌, ◌⊎◌, inl, inr, Bool, true, false, cond, nat_eq, List, [], ◌∷◌, ◌++◌, map, length, get_or, drop, refl, ap, ◌∙◌, sym, subst, arith, ◌+◌, add-one}
 use Rattle.std.proofs.lemmas.Bool.{false≢true, or_cases, cases_Bool, cases_eq, cond_both, cond-true, cond-false, eqb-true, eqb-false, eq-eqb, ne_eqb}
 use Rattle.std.proofs.lemmas.List.{map-append, drop_all}
 use Rattle.std.proofs.Math.Seq.{drop-cons}
@@ -75,16 +75,18 @@ pub place_injective : (ms : List ℕ) (a b : ℕ) → Member ms a → place_in m
 place_injective [] a b h e = absurd h
 place_injective (m ∷ ms) a b h e =
     elim (cases_Bool (nat_eq m a)) [
-      inl ta ↦ elim (cases_Bool (nat_eq m b)) [
-        inl tb ↦ sym (eqb-true m a ta) ∙ eqb-true m b tb
-      | inr fb ↦
-        absurd (omega (arith, e, cond-true (nat_eq m a) 1 (suc (place_in ms a)) ta, cond-false (nat_eq m b) 1 (suc (place_in ms b)) fb, place_positive ms b)) ]
-    | inr fa ↦ elim (cases_Bool (nat_eq m b)) [
-        inl tb ↦
-        absurd (omega (arith, e, cond-false (nat_eq m a) 1 (suc (place_in ms a)) fa, cond-true (nat_eq m b) 1 (suc (place_in ms b)) tb, place_positive ms a))
-      | inr fb ↦
-        place_injective ms a b (member_rest m ms a fa h)
-        (omega (arith, e, cond-false (nat_eq m a) 1 (suc (place_in ms a)) fa, cond-false (nat_eq m b) 1 (suc (place_in ms b)) fb)) ]
+      | inl ta ↦ elim (cases_Bool (nat_eq m b)) [
+        | inl tb ↦ sym (eqb-true m a ta) ∙ eqb-true m b tb
+        | inr fb ↦
+            absurd (omega (arith, e, cond-true (nat_eq m a) 1 (suc (place_in ms a)) ta, cond-false (nat_eq m b) 1 (suc (place_in ms b)) fb, place_positive ms b))
+      ]
+      | inr fa ↦ elim (cases_Bool (nat_eq m b)) [
+        | inl tb ↦
+            absurd (omega (arith, e, cond-false (nat_eq m a) 1 (suc (place_in ms a)) fa, cond-true (nat_eq m b) 1 (suc (place_in ms b)) tb, place_positive ms a))
+        | inr fb ↦
+            place_injective ms a b (member_rest m ms a fa h)
+            (omega (arith, e, cond-false (nat_eq m a) 1 (suc (place_in ms a)) fa, cond-false (nat_eq m b) 1 (suc (place_in ms b)) fb))
+      ]
     ]
 
 later_sort : (a b : Sort) (sorts : List Sort) (k : ℕ) → 0 < k → get_or (a ∷ sorts) k Any ≡ get_or (b ∷ sorts) k Any
@@ -104,8 +106,8 @@ module _ (f : ℕ → ℕ) (met : List ℕ) (apart : (x y : ℕ) → Member met 
   same_test : (x y : ℕ) → Member met x → Member met y → nat_eq (f x) (f y) ≡ nat_eq x y
   same_test x y mx my =
       elim (cases_eq x y) [
-        inl e ↦ eq-eqb (f x) (f y) (ap f e) ∙ sym (eq-eqb x y e)
-      | inr n ↦ ne_eqb (f x) (f y) (λ e. n (apart x y mx my e)) ∙ sym (ne_eqb x y n)
+        | inl e ↦ eq-eqb (f x) (f y) (ap f e) ∙ sym (eq-eqb x y e)
+        | inr n ↦ ne_eqb (f x) (f y) (λ e. n (apart x y mx my e)) ∙ sym (ne_eqb x y n)
       ]
 
   any_map : (found : List ℕ) (x : ℕ) → AllByRecursion (Member met) found → Member met x → list_any (λ y. nat_eq y (f x)) (map f found) ≡ list_any (λ y. nat_eq y x) found

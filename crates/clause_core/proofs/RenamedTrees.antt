@@ -1,9 +1,9 @@
 -- Trees with other variables.
-use Rattle.std.proofs.Common.{◌≡◌, ℕ, List, [], ◌∷◌, ◌++◌, map, refl, ap, ◌∙◌, sym}
+use Rattle.std.proofs.Common.{◌≡◌, List, [], ◌∷◌, ◌++◌, map, length, refl, ap}
 use Rattle.std.proofs.lemmas.List.{map-append}
 use Rattle.std.specs.List.{AllByRecursion}
-use Rattle.clp_model.specs.declared.tree.Tree.{Tree, Var, App, App', Row_of-Tree, end_of-Tree, more_of-Tree}
-use Rattle.clp_model.specs.Trees.{mapped, mapped_row, mapped_all, variables, variables_in_row, variables_in, IsApplication, size, depth, total_size, greatest_depth}
+use Rattle.clp_model.specs.declared.tree.Tree.{Tree, Var, App', Row_of-Tree, end_of-Tree, more_of-Tree}
+use Rattle.clp_model.specs.Trees.{mapped, mapped_row, mapped_all, variables, variables_in_row, variables_in, IsApplication, total_size, greatest_depth}
 use Rattle.clp_model.proofs.Trees.{size_mapped, depth_mapped}
 
 module _ {X : Type 0} (P : X → Type 0) where
@@ -84,6 +84,10 @@ total_size_mapped f (t ∷ ts) = let a = size_mapped f t in let b = total_size_m
 pub greatest_depth_mapped : {V W : Type 0} (f : V → W) (ts : List (Tree V)) → greatest_depth (mapped_all f ts) ≡ greatest_depth ts
 greatest_depth_mapped f [] = refl
 greatest_depth_mapped f (t ∷ ts) = let a = depth_mapped f t in let b = greatest_depth_mapped f ts in cc
+
+pub length_mapped : {V W : Type 0} (f : V → W) (ts : List (Tree V)) → length (mapped_all f ts) ≡ length ts
+length_mapped f [] = refl
+length_mapped f (t ∷ ts) = let b = length_mapped f ts in cc
 
 -- an application stays one
 pub application_mapped : {V W : Type 0} (f : V → W) (t : Tree V) → IsApplication t → IsApplication (mapped f t)

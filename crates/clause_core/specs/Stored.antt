@@ -3,10 +3,10 @@ use Rattle.std.specs.Prelude.{◌≡◌, ℕ, ◌<◌, ◌≤◌, List, [], ◌�
 use Rattle.clp_model.specs.declared.sort.Sort.{Sort}
 use Rattle.clp_model.specs.declared.tree.Variable.{Variable}
 use Rattle.clp_model.specs.declared.tree.Tree.{Tree}
-use Rattle.clp_model.specs.Trees.{mapped, mapped_all, variables_in, IsApplication}
+use Rattle.clp_model.specs.Trees.{total_size, greatest_depth, mapped, mapped_all, variables_in, IsApplication}
 use Rattle.clp_model.specs.Clauses.{Clause as Meaning, sort_in}
 use Rattle.clp_model.specs.Canonical.{place_in, IsCanonical, new_clause}
-use Rattle.term_store.specs.Trees.{tree_at, trees_at, AreIn}
+use Rattle.term_store.specs.Trees.{tree_at, trees_at, AreIn, IsOver}
 use Rattle.clause_core.specs.declared.clause.Clause.{Clause}
 use Rattle.clause_core.specs.declared.clause.RawClause.{RawClause}
 use Rattle.clause_core.specs.declared.fault.ClauseFault.{ClauseFault}
@@ -55,6 +55,10 @@ IsRaw store raw = AreParts store raw.head raw.atoms raw.sorts
 pub record IsStored (store : List (Tree Variable)) (c : Clause) : Type 0 where
   pub parts : AreParts store c.head c.atoms c.sorts
   pub canonical : IsCanonical (clause_in store c)
+
+-- the size of these terms is past 4,096, or the depth of one past 256
+abbrev pub IsLarge : List (Tree Variable) → ℕ → List ℕ → Type 0
+IsLarge store head atoms = IsOver (total_size (trees_at store (head ∷ atoms))) (greatest_depth (trees_at store (head ∷ atoms)))
 
 -- the limit is the first that the new clause is past
 abbrev pub IsRefused : Meaning → ClauseFault → Type 0

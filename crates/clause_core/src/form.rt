@@ -34,11 +34,7 @@ fn renumbered(
 
 /// The canonical form: variables are numbered by first occurrence in the head and then the body atoms, and the
 /// sorts are those of these variables. `TooLarge` where the clause is past a limit, with the first such limit.
-pub fn canonical(
-    alloc: Global,
-    store: &mut Store,
-    raw: &RawClause,
-) -> Result<Clause, ClauseFault>
+pub fn canonical(alloc: Global, store: &mut Store, raw: &RawClause) -> Result<Clause, ClauseFault>
     requires { IsRaw store.old raw.now }
     ensures keeps { Keeps store.old store.new }
     ensures form { IfOk result (λ c. new_clause (raw_in store.old raw.now) ≡ Ok (clause_in store.new c)) }

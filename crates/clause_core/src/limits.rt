@@ -1,19 +1,18 @@
 //! The limits of a new clause.
 
 ghost use Rattle.std.specs.Prelude.{◌≡◌, ◌∷◌, ◌↔◌, IsTrue, None, IfOk, IfErr, OnOk};
-ghost use Rattle.clp_model.specs.Trees.{total_size, greatest_depth};
 ghost use Rattle.clp_model.specs.Canonical.{variables_met, limit_past};
-ghost use Rattle.term_store.specs.Trees.{trees_at, AreIn, IsOver};
-ghost use Rattle.clause_core.specs.Stored.{atoms_at, raw_in, IsRaw, IsRefused};
+ghost use Rattle.term_store.specs.Trees.{AreIn};
+ghost use Rattle.clause_core.specs.Stored.{atoms_at, raw_in, IsRaw, IsLarge, IsRefused};
 
 use crate::clause::RawClause;
 use crate::fault::ClauseFault;
-use crate::meeting::meet_all;
+use crate::meeting::variables_met;
 use clp_model::Limit;
 use sqlite_items::Items;
 use std::alloc::Global;
 use std::cmp::max;
-use term_store::{Store, Term};
+use term_store::Store;
 
 const MAX_SIZE: u32 = 4096;
 
@@ -23,14 +22,14 @@ const MAX_ATOMS: usize = 64;
 
 const MAX_VARIABLES: usize = 256;
 
-/// Whether a head and body atoms are together above size 4,096, or one of them above depth 256.
-fn is_large(store: &Store, head: Term, atoms: &[Term]) -> bool
-    requires { AreIn store.now (head ∷ atoms.now) }
-    ensures { IsTrue result ↔ IsOver (total_size (trees_at store.now (head ∷ atoms.now))) (greatest_depth (trees_at store.now (head ∷ atoms.now))) }
+/// Whether the head and the body atoms are together above size 4,096, or one of them above depth 256.
+fn is_large(store: &Store, raw: &RawClause) -> bool
+    requires { AreIn store.now (raw.now.head ∷ raw.now.atoms) }
+    ensures { IsTrue result ↔ IsLarge store.now raw.now.head raw.now.atoms }
 {
-    let mut size = store.size(head);
-    let mut depth = store.depth(head);
-    for atom in atoms {
+    let mut size = store.size(raw.head);
+    let mut depth = store.depth(raw.head);
+    for atom in raw.atoms.as_slice() {
         size += store.size(*atom);
         depth = max(depth, store.depth(*atom));
         if size > MAX_SIZE {
@@ -51,15 +50,13 @@ pub(crate) fn variables_within(
     ensures within { OnOk result (limit_past (raw_in store.now raw.now) ≡ None) }
     ensures past { IfErr result (IsRefused (raw_in store.now raw.now)) }
 {
-    if is_large(store, raw.head, raw.atoms.as_slice()) {
+    if is_large(store, raw) {
         return Err(ClauseFault::TooLarge(Limit::Shape));
     }
     if raw.atoms.len() > MAX_ATOMS {
         return Err(ClauseFault::TooLarge(Limit::Atoms));
     }
-    let mut met = Items::new(alloc);
-    meet_all(store, [raw.head].as_slice(), &mut met)?;
-    meet_all(store, raw.atoms.as_slice(), &mut met)?;
+    let met = variables_met(alloc, store, raw)?;
     if met.len() > MAX_VARIABLES {
         return Err(ClauseFault::TooLarge(Limit::Variables));
     }

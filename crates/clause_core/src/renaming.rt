@@ -45,6 +45,7 @@ fn application(store: &mut Store, name: &str, args: &[Term]) -> Result<Term, NoM
 
 /// The term with each variable numbered by its place in `met`.
 #[cycle(renamed)]
+#[tactic(auto, using(crate::proofs::Terms::renamed_var, crate::proofs::Terms::renamed_app, crate::proofs::Terms::small_app, clp_model::proofs::Trees::size_app))]
 pub(crate) fn renamed(
     alloc: Global,
     store: &mut Store,
@@ -99,11 +100,7 @@ fn sort_in(sorts: &[Sort], number: u32) -> Sort
 }
 
 /// The sorts of the variables in `met`.
-pub(crate) fn sorts_of(
-    alloc: Global,
-    sorts: &[Sort],
-    met: &[u32],
-) -> Result<Items<Sort>, NoMemory>
+pub(crate) fn sorts_of(alloc: Global, sorts: &[Sort], met: &[u32]) -> Result<Items<Sort>, NoMemory>
     ensures { IfOk result (λ found. found ≡ map (sort_in sorts.now) met.now) }
 {
     let mut found = Items::new(alloc);

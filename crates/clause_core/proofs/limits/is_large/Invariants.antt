@@ -5,8 +5,8 @@ use Rattle.clause_core.proofs.limits.is_large.Given as goal
 
 abbrev pub invariant-loop-atom : goal.invariant-loop-atom
 invariant-loop-atom l = record {
-  inside : AreIn l.store (drop l.atom-index l.atoms);
-  size : l.size + total_size (trees_at l.store (drop l.atom-index l.atoms)) ≡ total_size (trees_at l.store (l.head ∷ l.atoms));
-  depth : max l.depth (greatest_depth (trees_at l.store (drop l.atom-index l.atoms))) ≡ greatest_depth (trees_at l.store (l.head ∷ l.atoms));
+  inside : AreIn l.store (drop l.atom-index l.raw.atoms);
+  size : l.size + total_size (trees_at l.store (drop l.atom-index l.raw.atoms)) ≡ total_size (trees_at l.store (l.raw.head ∷ l.raw.atoms));
+  depth : max l.depth (greatest_depth (trees_at l.store (drop l.atom-index l.raw.atoms))) ≡ greatest_depth (trees_at l.store (l.raw.head ∷ l.raw.atoms));
   small : l.size ≤ 4096;
 }
