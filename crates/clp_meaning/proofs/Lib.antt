@@ -1,0 +1,4 @@
+pub mod Membership
+pub mod Renaming
+pub mod Carrying
+pub mod Merging
