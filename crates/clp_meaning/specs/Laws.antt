@@ -1,10 +1,10 @@
 -- What keeps instances, and what keeps provability.
-use Rattle.std.specs.Prelude.{◌≡◌, ◌≢◌, ◌⊎◌, ◌↔◌, ℕ, ◌<◌, List, [], Contains, length, slice_index_or, remove}
+use Rattle.std.specs.Prelude.{◌≡◌, ◌≢◌, ◌⊎◌, ◌↔◌, ℕ, ◌<◌, List, [], Contains, length, slice_index_or, remove, Ok}
 use Rattle.clp_model.specs.declared.tree.Tree.{Tree}
 use Rattle.clp_model.specs.Values.{GroundAtom}
 use Rattle.clp_model.specs.Clauses.{Clause, Instance}
 use Rattle.clp_model.specs.Proof.{Provable}
-use Rattle.clp_model.specs.Canonical.{canonical_form}
+use Rattle.clp_model.specs.Canonical.{canonical_form, new_clause, IsCanonical}
 
 -- a clause without equations and rows
 pub record HasNoConstraint (c : Clause) : Type 0 where
@@ -18,6 +18,14 @@ HasInstancesOf c d = (a : GroundAtom) (body : List GroundAtom) → Instance d a 
 abbrev pub CanonicalFormKeepsInstances : Type 0
 CanonicalFormKeepsInstances =
     (c : Clause) → HasNoConstraint c → HasInstancesOf (canonical_form c) c × HasInstancesOf c (canonical_form c)
+
+-- what a new clause becomes is its canonical form, which is canonical and within the limits
+abbrev pub NewClauseIsCanonical : Type 0
+NewClauseIsCanonical = (c d : Clause) → new_clause c ≡ Ok d → (d ≡ canonical_form c) × IsCanonical d
+
+-- a canonical clause within the limits stays as it is
+abbrev pub CanonicalClauseStays : Type 0
+CanonicalClauseStays = (c : Clause) → IsCanonical c → new_clause c ≡ Ok c
 
 -- each clause of p has its instances among those of some clause of q
 abbrev pub HasClausesOf : List Clause → List Clause → Type 0

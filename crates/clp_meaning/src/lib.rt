@@ -3,7 +3,17 @@
 //! the contract of an empty function.
 #![tactic(auto)]
 
-ghost use Rattle.clp_meaning.specs.Laws.{CanonicalFormKeepsInstances, SameInstancesKeepProvability, MergeKeepsProvability};
+ghost use Rattle.clp_meaning.specs.Laws.{NewClauseIsCanonical, CanonicalClauseStays, CanonicalFormKeepsInstances, SameInstancesKeepProvability, MergeKeepsProvability};
+
+/// What is made of a new clause is its canonical form, which is canonical again and within the limits.
+pub fn new_clause_is_canonical()
+    ensures { NewClauseIsCanonical }
+{}
+
+/// A canonical clause within the limits stays as it is.
+pub fn canonical_clause_stays()
+    ensures { CanonicalClauseStays }
+{}
 
 /// The canonical form of a clause has the same instances: numbering its variables anew changes none.
 pub fn canonical_form_keeps_instances()
