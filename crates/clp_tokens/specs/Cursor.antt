@@ -46,6 +46,7 @@ fault_at kind text = record { left = left text; kind = kind }
 unfoldable pub refusal : List ℕ → Fault
 refusal text = fault_at (reason (kind text)) text
 
+-- the two are the same kind
 unfoldable pub same_kind : TokenKind → TokenKind → Bool
 same_kind = sameb the_type
 
