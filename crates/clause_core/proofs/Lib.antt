@@ -5,3 +5,4 @@ pub mod CanonicalForms
 pub mod Counts
 pub mod Terms
 pub mod Made
+pub mod Kept
