@@ -1,5 +1,5 @@
 -- A clause whose terms were renamed.
-use Rattle.std.proofs.Common.{◌≡◌, ℕ, List, [], ◌∷◌, map, All, None, refl, ap, ◌∙◌, sym, subst, arith}
+use Rattle.std.proofs.Common.{◌≡◌, ℕ, ◌+◌, ◌<◌, length, get_or, List, [], ◌∷◌, map, All, None, refl, ap, ◌∙◌, sym, subst, arith}
 use Rattle.std.proofs.lemmas.List.{length-map}
 use Rattle.std.proofs.lemmas.List.Elements.{All-from_recursion, recursion_from_All}
 use Rattle.std.specs.List.{AllByRecursion}
@@ -12,8 +12,8 @@ use Rattle.clp_model.specs.Canonical.{variables_met, place_in, canonical_form, l
 use Rattle.term_store.specs.Trees.{tree_at, trees_at, AreIn, HasTree, HaveTrees, Keeps}
 use Rattle.term_store.proofs.Keeping.{keeps_at, keeps_all, keeps_within}
 use Rattle.clause_core.specs.Stored.{number_of, renumber, atom_at, atoms_at, clause_of, HasSort, AreParts}
-use Rattle.clause_core.proofs.RenamedTrees.{mapped_mapped, all_mapped_mapped, variables_in_mapped, application_mapped}
-use Rattle.clause_core.proofs.Places.{Member, place_positive, place_within, sort_at_place}
+use Rattle.clause_core.proofs.RenamedTrees.{mapped_mapped, all_mapped_mapped, all_mapped_agree, all_mapped_same, variables_in_mapped, application_mapped}
+use Rattle.clause_core.proofs.Places.{Member, place_in_order, place_positive, place_within, sort_at_place}
 use Rattle.clause_core.proofs.CanonicalForms.{same_plain, each_met, canonical_is}
 
 -- the head and the atoms together
@@ -100,3 +100,18 @@ module _ (old new : List (Tree Variable)) (head : ℕ) (atoms : List ℕ) (sorts
     made_canonical within =
         let P : Clause → Type 0 = IsCanonical in
         subst P (sym made_form) (canonical_is (atom_at old head) (atoms_at old atoms) sorts within)
+
+same_number : (met : List ℕ) (vs : List Variable) → ((k : ℕ) → k < length met → get_or met k 0 ≡ k + 1) → AllByRecursion (Member met) (map number_of vs) → AllByRecursion (λ v. renumber met v ≡ v) vs
+same_number met [] h m = tt
+same_number met (v ∷ vs) h m = (ap (λ (n : ℕ). let w : Variable = record { number = n; sort = v.sort } in w) (place_in_order met v.number h m.0), same_number met vs h m.1)
+
+-- where the variables are numbered in order, the terms stay
+pub made_same : (old : List (Tree Variable)) (head : ℕ) (atoms : List ℕ) (met : List ℕ) → AreIn old (head ∷ atoms) → met ≡ variables_met (atoms_at old (head ∷ atoms))
+    → ((k : ℕ) → k < length met → get_or met k 0 ≡ k + 1) → HaveTrees old (head ∷ atoms) (mapped_all (renumber met) (trees_at old (head ∷ atoms)))
+made_same old head atoms met within is order =
+    let trees : List (Tree Variable) = trees_at old (head ∷ atoms) in
+    let P : List ℕ → Type 0 = λ m. AllByRecursion (Member m) (map number_of (variables_in trees)) in
+    record {
+      within = within;
+      are = sym (all_mapped_agree (renumber met) (λ v. v) trees (same_number met (variables_in trees) order (subst P (sym is) (members old old head atoms [] head atoms))) ∙ all_mapped_same trees);
+    }

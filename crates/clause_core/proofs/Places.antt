@@ -145,3 +145,13 @@ place_step ms i n h = ap (λ v. place_in v n) (drop-cons ms i 0 h) ∙ ap (λ k.
 
 pub place_end : (ms : List ℕ) (i n : ℕ) → length ms ≤ i → place_in (drop i ms) n ≡ 1
 place_end ms i n h = ap (λ v. place_in v n) (drop_all i ms h)
+
+-- in a list of numbers in order each number is its own place
+place_from : (ms : List ℕ) (from n : ℕ) → ((k : ℕ) → k < length ms → get_or ms k 0 ≡ from + k + 1) → Member ms n → from + place_in ms n ≡ n
+place_from [] from n h mn = absurd mn
+place_from (m ∷ ms) from n h mn =
+    cond_both (nat_eq m n) 1 (suc (place_in ms n)) (λ v. from + v ≡ n) (λ t. omega (arith, eqb-true m n t, h 0 (omega arith)))
+    (λ f. let rest : from + 1 + place_in ms n ≡ n = place_from ms (from + 1) n (λ k l. let e : get_or ms k 0 ≡ from + suc k + 1 = h (suc k) (omega arith) in omega arith) (member_rest m ms n f mn) in omega arith)
+
+pub place_in_order : (ms : List ℕ) (n : ℕ) → ((k : ℕ) → k < length ms → get_or ms k 0 ≡ k + 1) → Member ms n → place_in ms n ≡ n
+place_in_order ms n h mn = let e = place_from ms 0 n (λ k l. let i = h k l in omega arith) mn in omega arith

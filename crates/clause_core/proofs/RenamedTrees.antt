@@ -94,3 +94,19 @@ pub application_mapped : {V W : Type 0} (f : V → W) (t : Tree V) → IsApplica
 unfolding mapped IsApplication
 application_mapped f (Var v) h = absurd h
 application_mapped f (App' name shape args) h = tt
+
+mutual
+  unfolding mapped
+
+  -- the tree with each variable in its own place
+  pub mapped_same : {V : Type 0} (t : Tree V) → mapped (λ v. v) t ≡ t
+  mapped_same (Var v) = refl
+  mapped_same (App' name shape args) = ap (App' name shape) (row_mapped_same args)
+
+  row_mapped_same : {V : Type 0} {m : _} (ts : Row_of-Tree V m) → mapped_row (λ v. v) ts ≡ ts
+  row_mapped_same end_of-Tree = refl
+  row_mapped_same (more_of-Tree t ts) = let a = mapped_same t in let b = row_mapped_same ts in cc
+
+pub all_mapped_same : {V : Type 0} (ts : List (Tree V)) → mapped_all (λ v. v) ts ≡ ts
+all_mapped_same [] = refl
+all_mapped_same (t ∷ ts) = let a = mapped_same t in let b = all_mapped_same ts in cc

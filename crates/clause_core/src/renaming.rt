@@ -1,6 +1,6 @@
 //! Terms with their variables numbered by place in a list.
 
-ghost use Rattle.std.specs.Prelude.{◌≡◌, ◌<◌, ◌≤◌, ◌∷◌, length, map, IfOk};
+ghost use Rattle.std.specs.Prelude.{◌≡◌, ◌+◌, ◌↔◌, IsTrue, EachIndex, slice_index, ◌<◌, ◌≤◌, ◌∷◌, length, map, IfOk};
 ghost use Rattle.clp_model.specs.declared.tree.Tree.{App};
 ghost use Rattle.clp_model.specs.Trees.{mapped, mapped_all};
 ghost use Rattle.clp_model.specs.Clauses.{sort_in};
@@ -27,6 +27,18 @@ fn place_in(met: &[u32], number: u32) -> u32
         place += 1;
     }
     place
+}
+
+/// Whether the numbers are 1, 2, 3 and so on, so that each is its own place.
+pub(crate) fn is_in_order(met: &[u32]) -> bool
+    ensures { IsTrue result ↔ EachIndex met.now (λ k. slice_index met.now k ≡ k + 1) }
+{
+    for (i, m) in met.iter().enumerate() {
+        if *m as usize != i + 1 {
+            return false;
+        }
+    }
+    true
 }
 
 /// The application, which is known to be within the limits.
