@@ -1,12 +1,12 @@
 -- Clauses in a store that keeps their terms.
-use Rattle.std.proofs.Common.{◌≡◌, ℕ, List, ◌∷◌, All, refl, ap, ◌∙◌, sym, subst}
+use Rattle.std.proofs.Common.{◌≡◌, ℕ, List, ◌∷◌, All, refl, ap, sym, subst}
 use Rattle.clp_model.specs.declared.sort.Sort.{Sort}
 use Rattle.clp_model.specs.declared.tree.Variable.{Variable}
 use Rattle.clp_model.specs.declared.tree.Tree.{Tree}
 use Rattle.clp_model.specs.Trees.{mapped, mapped_all, variables_in, IsApplication}
 use Rattle.clp_model.specs.Clauses.{Clause as Meaning}
 use Rattle.clp_model.specs.Canonical.{IsCanonical}
-use Rattle.term_store.specs.Trees.{trees_at, AreIn, Keeps}
+use Rattle.term_store.specs.Trees.{AreIn, Keeps}
 use Rattle.term_store.proofs.Keeping.{keeps_at, keeps_all, keeps_in}
 use Rattle.clause_core.specs.declared.clause.Clause.{Clause}
 use Rattle.clause_core.specs.declared.clause.RawClause.{RawClause}

@@ -12,3 +12,6 @@ pub use clause::{Clause, RawClause, clause_size, copy_clause};
 pub use clp_model::{Limit, Pred, SourceClause, Tree};
 pub use fault::ClauseFault;
 pub use form::canonical;
+
+#[cfg(test)]
+mod tests;

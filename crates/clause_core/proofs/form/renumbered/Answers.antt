@@ -1,4 +1,4 @@
-use Rattle.std.proofs.Common.{◌≡◌, map, length, ap, ◌∙◌, arith}
+use Rattle.std.proofs.Common.{◌≡◌, map, length, ap, arith}
 use Rattle.clp_model.specs.Clauses.{sort_in}
 use Rattle.clause_core.proofs.Counts.{few_in}
 use Rattle.clause_core.proofs.Made.{made_form, made_parts, made_canonical}

@@ -1,0 +1,67 @@
+ghost use Rattle.std.specs.Prelude.{◌≡◌, ◌+◌, ◌%◌, ◌∷◌, [], IfOk};
+ghost use Rattle.clp_model.specs.declared.tree.Tree.{App};
+ghost use Rattle.clp_model.specs.declared.sort.Sort.TheVariants.{Any};
+ghost use Rattle.term_store.specs.Trees.{variable, HasTree, Keeps};
+ghost use Rattle.clause_core.specs.Stored.{IsRaw};
+
+use super::*;
+use clp_model::Sort;
+use sqlite_items::Items;
+use std::alloc::Global;
+use std::test::Fail;
+use term_store::{Store, Term, TermFault};
+
+/// An atom with two of the variables 1, 2 and 3.
+#[tactic(auto, using(term_store::proofs::Keeping::keeps_at, term_store::proofs::Keeping::keeps_within))]
+fn atom(store: &mut Store, name: &str, pair: (u32, u32)) -> Result<Term, TermFault>
+    ensures keeps { Keeps store.old store.new }
+    ensures made { IfOk result (λ t. HasTree store.new t (App name.now (variable (pair.0 % 3 + 1) Any ∷ variable (pair.1 % 3 + 1) Any ∷ []))) }
+{
+    let x = store.var(pair.0 % 3 + 1, Sort::Any)?;
+    let y = store.var(pair.1 % 3 + 1, Sort::Any)?;
+    store.app(name, &[x, y])
+}
+
+/// A clause with one body atom.
+fn clause(
+    alloc: Global,
+    store: &mut Store,
+    head: (u32, u32),
+    body: (u32, u32),
+) -> Result<RawClause, TermFault>
+    ensures keeps { Keeps store.old store.new }
+    ensures raw { IfOk result (IsRaw store.new) }
+{
+    let head = atom(store, "p", head)?;
+    let body = atom(store, "q", body)?;
+    Ok(RawClause {
+        head,
+        atoms: Items::from_slice(alloc, &[body])?,
+        sorts: Items::from_slice(alloc, &[Sort::Any; 3])?,
+    })
+}
+
+#[test]
+#[tactic(auto, using(crate::proofs::Kept::is_raw_kept))]
+fn canonical_forms(rt: HostRuntime) -> Result<(), Fail> {
+    // the variables of the head and the body, as they are and in the canonical form, counted from 0
+    let cases = [
+        ((1, 0), (0, 1), (0, 1), (1, 0), 2),
+        ((2, 2), (0, 2), (0, 0), (1, 0), 2),
+        ((0, 1), (1, 2), (0, 1), (1, 2), 3),
+        ((2, 2), (2, 2), (0, 0), (0, 0), 1),
+    ];
+    for (head, body, new_head, new_body, variables) in cases {
+        let mut store = Store::new(rt.alloc());
+        let wanted = clause(rt.alloc(), &mut store, new_head, new_body)?;
+        let raw = clause(rt.alloc(), &mut store, head, body)?;
+        let c = canonical(rt.alloc(), &mut store, &raw)?;
+        assert!(rt; store.same(c.head, wanted.head));
+        assert_eq!(rt; c.atoms.len(), 1);
+        assert_eq!(rt; wanted.atoms.len(), 1);
+        assert!(rt; store.same(c.atoms.as_slice()[0], wanted.atoms.as_slice()[0]));
+        assert_eq!(rt; c.sorts.len(), variables);
+        assert_eq!(rt; clause_size(&store, &c), 6);
+    }
+    Ok(())
+}
