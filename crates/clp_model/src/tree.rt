@@ -28,11 +28,12 @@ impl Tree<u32> {
         match self {
             Tree::Var(number) => Ok(Tree::Var(*number)),
             Tree::App(name, args) => {
+                let name = Name::copy_of(alloc, name.as_str())?;
                 let mut copies = Items::new(alloc);
                 for arg in args.as_slice() {
                     copies.push(arg.copy(alloc)?)?;
                 }
-                Ok(Tree::App(Name::copy_of(alloc, name.as_str())?, copies))
+                Ok(Tree::App(name, copies))
             }
         }
     }
