@@ -6,3 +6,4 @@ pub mod Counts
 pub mod Terms
 pub mod Made
 pub mod Kept
+pub mod Without

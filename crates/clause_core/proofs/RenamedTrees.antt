@@ -15,6 +15,10 @@ module _ {X : Type 0} (P : X → Type 0) where
   each_right [] ys h = h
   each_right (x ∷ xs) ys h = each_right xs ys h.1
 
+  pub each_both : (xs ys : List X) → AllByRecursion P xs → AllByRecursion P ys → AllByRecursion P (xs ++ ys)
+  each_both [] ys h k = k
+  each_both (x ∷ xs) ys h k = (h.0, each_both xs ys h.1 k)
+
 mutual
   unfolding mapped
 
