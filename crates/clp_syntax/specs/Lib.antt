@@ -1,2 +1,4 @@
 pub mod Input
 pub mod Grammar
+pub mod Readable
+pub mod Print
