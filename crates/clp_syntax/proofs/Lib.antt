@@ -2,3 +2,4 @@ pub mod Turns
 pub mod Inputs
 pub mod Trees
 pub mod Readable
+pub mod Order
