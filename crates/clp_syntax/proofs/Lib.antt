@@ -3,3 +3,4 @@ pub mod Inputs
 pub mod Trees
 pub mod Readable
 pub mod Order
+pub mod Terms
