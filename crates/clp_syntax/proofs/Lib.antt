@@ -4,3 +4,4 @@ pub mod Trees
 pub mod Readable
 pub mod Order
 pub mod Terms
+pub mod Programs
