@@ -1,0 +1,9 @@
+//! The text of programs: what a source clause becomes in a store, and what is printed for a clause.
+#![tactic(auto)]
+
+mod print;
+
+pub use print::print_clause;
+
+#[cfg(test)]
+mod print_tests;
