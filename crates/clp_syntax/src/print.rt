@@ -32,7 +32,7 @@ pub fn print_clause(
     Ok(())
 }
 
-#[tactic(auto, using(std::proofs::lemmas::List::append_assoc))]
+#[tactic(auto, using(std::proofs::lemmas::List::append_assoc), unfolding(crate::specs::Print::body_text, crate::specs::Print::atoms_text))]
 fn body(store: &Store, atoms: &[Term], into: &mut String) -> Result<(), NoMemory>
     requires { AreIn store.now atoms.now }
     ensures { OnOk result (string_bytes into.new ≡ string_bytes into.old ++ body_text (atoms_at store.now atoms.now)) }
