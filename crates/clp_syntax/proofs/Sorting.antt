@@ -1,10 +1,10 @@
 -- Trees with sorts, made one after another.
-use Rattle.std.proofs.Common.{◌≡◌, ℕ, zero, suc, ◌+◌, ◌<◌, ◌≤◌, max, List, [], ◌∷◌, ◌++◌, length, take, get_or, refl, ap, ◌∙◌, sym, subst, arith, inl, inr}
+use Rattle.std.proofs.Common.{◌≡◌, ℕ, zero, suc, ◌+◌, ◌<◌, ◌≤◌, List, [], ◌∷◌, ◌++◌, length, take, get_or, refl, ap, ◌∙◌, sym, subst, arith, inl, inr}
 use Rattle.std.proofs.lemmas.List.{take_more}
 use Rattle.clp_model.specs.declared.sort.Sort.{Sort}
 use Rattle.clp_model.specs.declared.tree.Variable.{Variable}
 use Rattle.clp_model.specs.declared.tree.Tree.{Tree, App}
-use Rattle.clp_model.specs.Trees.{size, depth, total_size, greatest_depth, mapped, mapped_all}
+use Rattle.clp_model.specs.Trees.{size, depth, total_size, greatest_depth, mapped}
 use Rattle.clp_model.proofs.Trees.{size_mapped, depth_mapped, mapped_app}
 use Rattle.term_store.specs.Trees.{Keeps, HasTree, HaveTrees, IsOver, IsTooLarge}
 use Rattle.term_store.proofs.Keeping.{have_push}
@@ -40,7 +40,7 @@ over_sorted sorts tree name ts us is e over =
     (omega (arith, ap size same, size_mapped (with_sort sorts) tree))
     (omega (arith, ap depth same, depth_mapped (with_sort sorts) tree)) over
 
-size_at : (ts : List (Tree ℕ)) (i : ℕ) (d : Tree ℕ) → i < length ts → size (get_or ts i d) ≤ total_size ts
+pub size_at : (ts : List (Tree ℕ)) (i : ℕ) (d : Tree ℕ) → i < length ts → size (get_or ts i d) ≤ total_size ts
 size_at [] i d h = absurd (omega arith)
 size_at (t ∷ ts) zero d h = omega arith
 size_at (t ∷ ts) (suc i) d h = let rest = size_at ts i d (omega arith) in omega arith

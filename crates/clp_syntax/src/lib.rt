@@ -1,10 +1,12 @@
 //! The text of programs: what a source clause becomes in a store, and what is printed for a clause.
 #![tactic(auto)]
 
-mod load;
+mod build;
+mod loading;
+mod predicates;
 mod print;
 
-pub use load::{LoadFault, Loaded};
+pub use loading::{LoadFault, Loaded, load};
 pub use print::print_clause;
 
 #[cfg(test)]

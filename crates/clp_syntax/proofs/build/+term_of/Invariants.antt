@@ -1,7 +1,7 @@
 use Rattle.std.proofs.Common.{take}
 use Rattle.term_store.specs.Trees.{Keeps, HaveTrees}
 use Rattle.clp_syntax.specs.Sorted.{sorted_trees}
-use Rattle.clp_syntax.proofs.load.+term_of.Given as goal
+use Rattle.clp_syntax.proofs.build.+term_of.Given as goal
 
 abbrev pub invariant-terms_of-loop-tree : goal.invariant-terms_of-loop-tree
 invariant-terms_of-loop-tree l = record {

@@ -1,41 +1,19 @@
-//! Loads a program: makes the clauses of its source clauses.
+//! Builds the parts of a source clause in a store.
 
-ghost use Rattle.std.specs.Prelude.{◌≡◌, ◌≤◌, ◌+◌, ◌∷◌, [], length, map, All, Ok, Err, Some, IfOk, IfErr, OnOk, IsErrOf};
+ghost use Rattle.std.specs.Prelude.{◌≡◌, Some, IfOk, IsErrOf};
 ghost use Rattle.clp_model.specs.declared.limit.Limit.TheVariants.{Shape};
 ghost use Rattle.clp_model.specs.Trees.{size, depth, total_size, greatest_depth};
 ghost use Rattle.clp_model.specs.Clauses.{of_source, sort_in};
-ghost use Rattle.clp_model.specs.Canonical.{clause_size, limit_past, new_clause};
+ghost use Rattle.clp_model.specs.Canonical.{limit_past};
 ghost use Rattle.term_store.specs.Trees.{HasTree, HaveTrees, IsOver, Keeps};
-ghost use Rattle.clause_core.specs.Stored.{clause_in, raw_in, IsRaw, IsRefused, IsStored};
+ghost use Rattle.clause_core.specs.Stored.{raw_in, IsRaw};
 ghost use Rattle.clp_syntax.specs.Sorted.{sorted_tree, sorted_trees};
 ghost use Rattle.clp_syntax.specs.WellFormed.{IsWellFormed};
-ghost use Rattle.clp_syntax.specs.Load as spec;
-ghost use Rattle.clp_syntax.specs.Loaded.{clauses_in, program_of, AreStored, IsLoadRefused};
 
-use clause_core::{Clause, ClauseFault, Limit, Pred, RawClause, SourceClause, Tree, canonical, clause_size};
+use clause_core::{RawClause, SourceClause, Tree};
 use sqlite_items::Items;
 use std::alloc::Global;
 use term_store::{Sort, Store, Term, TermFault};
-
-const MAX_NODES: u32 = 8_388_608;
-
-/// A program's clauses, with the store of their terms, and its predicates.
-#[derive(Drop)]
-pub struct Loaded {
-    pub store: Store,
-    /// A place for each source clause, which is empty where the clause has no instance (no clause of the present form).
-    pub clauses: Items<Option<Clause>>,
-    /// Each predicate that occurs in the program, once, by first occurrence.
-    pub preds: Items<Pred>,
-}
-
-/// Why a program was not loaded.
-#[derive(Clone, Copy, Debug, PartialEq, Eq)]
-pub enum LoadFault {
-    /// The limit that the first refused clause is past.
-    TooLarge(Limit),
-    NoMemory,
-}
 
 fn sort_of(sorts: &[Sort], number: u32) -> Sort
     ensures { result ≡ sort_in sorts.now number }
@@ -63,7 +41,12 @@ fn term_of(alloc: Global, store: &mut Store, sorts: &[Sort], tree: &Tree) -> Res
 }
 
 #[cycle(term_of)]
-fn terms_of(alloc: Global, store: &mut Store, sorts: &[Sort], trees: &[Tree]) -> Result<Items<Term>, TermFault>
+fn terms_of(
+    alloc: Global,
+    store: &mut Store,
+    sorts: &[Sort],
+    trees: &[Tree],
+) -> Result<Items<Term>, TermFault>
     ensures keeps { Keeps store.old store.new }
     ensures made { IfOk result (λ terms. HaveTrees store.new terms (sorted_trees sorts.now trees.now)) }
     ensures large { IsErrOf result TermFault.TooLarge → IsOver (total_size trees.now) (greatest_depth trees.now) }
@@ -74,4 +57,23 @@ fn terms_of(alloc: Global, store: &mut Store, sorts: &[Sort], trees: &[Tree]) ->
         terms.push(term)?;
     }
     Ok(terms)
+}
+
+/// The head, the body atoms and the sorts of a source clause. `TooLarge` only where a tree of it is past the limits of a term.
+pub fn raw_of(
+    alloc: Global,
+    store: &mut Store,
+    source: &SourceClause,
+) -> Result<RawClause, TermFault>
+    requires { IsWellFormed source.now }
+    ensures keeps { Keeps store.old store.new }
+    ensures raw { IfOk result (λ raw. IsRaw store.new raw) }
+    ensures same { IfOk result (λ raw. raw_in store.new raw ≡ of_source source.now) }
+    ensures large { IsErrOf result TermFault.TooLarge → limit_past (of_source source.now) ≡ Some Shape }
+{
+    let sorts = source.sorts.as_slice();
+    let head = term_of(alloc, store, sorts, &source.head)?;
+    let atoms = terms_of(alloc, store, sorts, source.atoms.as_slice())?;
+    let sorts = Items::from_slice(alloc, sorts)?;
+    Ok(RawClause { head, atoms, sorts })
 }

@@ -1,17 +1,16 @@
-use Rattle.std.proofs.Common.{arith, rules, ◌∙◌, ap}
+use Rattle.std.proofs.Common.{arith}
 use Rattle.std.proofs.lemmas.Result.{err_from_is_err_and}
 use Rattle.term_store.proofs.Keeping.{keeps_trans}
 use Rattle.term_store.specs.Trees.{trees_at}
-use Rattle.clp_syntax.specs.Sorted.{sorted_trees}
 use Rattle.clp_syntax.proofs.Sorting.{sorted_more, over_sorted, over_at}
-use Rattle.clp_syntax.proofs.load.+term_of.Goals as goal
+use Rattle.clp_syntax.proofs.build.+term_of.Goals as goal
 
 pub term_of-returns-in_ok-terms-in-App-clause-large :
     goal.term_of-returns-in_ok-terms-in-App-clause-large
 term_of-returns-in_ok-terms-in-App-clause-large t c = λ h.
     over_sorted c.args.sorts.now c.args.tree.now _ c.as_slice.result.now (trees_at c.terms_of.new.store c.as_slice-in-App.result.now)
-      (let e = c.in-App.is in let f = c.as_slice.ensures in let g = c.as_str.ensures in cc)
-      (let e = c.in_ok-terms-in-App.ensures.made.are in let f = c.as_slice-in-App.ensures in cc) (c.app.ensures.large h)
+    (let e = c.in-App.is in let f = c.as_slice.ensures in let g = c.as_str.ensures in cc)
+    (let e = c.in_ok-terms-in-App.ensures.made.are in let f = c.as_slice-in-App.ensures in cc) (c.app.ensures.large h)
 
 pub terms_of-loop-tree-preserved : goal.terms_of-loop-tree-preserved
 terms_of-loop-tree-preserved t c = record {
