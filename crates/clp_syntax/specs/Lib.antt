@@ -2,3 +2,8 @@ pub mod Input
 pub mod Grammar
 pub mod Readable
 pub mod Print
+pub mod Listed
+pub mod WellFormed
+pub mod Sorted
+pub mod Load
+pub mod Loaded
