@@ -11,4 +11,4 @@ pub mod Sorting
 pub mod Collecting
 pub mod Parts
 pub mod Stopping
-pub mod Loading
+pub mod LoadedPrograms

@@ -21,6 +21,5 @@ pub use text_error::TextError;
 
 #[cfg(test)]
 mod print_tests;
-
 #[cfg(test)]
 mod tests;

@@ -138,7 +138,6 @@ pub loaded_again : (cs : List Clause) → All IsCanonical cs → sizes_of cs ≤
 unfolding load
 loaded_again cs h small = ap (with_predicates (initial_predicates cs)) (again [] 0 cs h (omega (arith, small)))
 
-
 -- ---- what was read, and what is printed
 
 well_formed : (c : SourceClause) → IsReadable c → IsWellFormed c
