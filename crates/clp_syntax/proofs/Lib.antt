@@ -4,3 +4,4 @@ pub mod Sorting
 pub mod Collecting
 pub mod Parts
 pub mod Stopping
+pub mod Noting

@@ -2,6 +2,7 @@
 #![tactic(auto)]
 
 mod build;
+mod found;
 mod loading;
 mod predicates;
 mod print;
@@ -9,5 +10,7 @@ mod print;
 pub use loading::{LoadFault, Loaded, load};
 pub use print::print_clause;
 
+#[cfg(test)]
+mod load_tests;
 #[cfg(test)]
 mod print_tests;
