@@ -12,3 +12,4 @@ pub mod Collecting
 pub mod Parts
 pub mod Stopping
 pub mod LoadedPrograms
+pub mod Noting

@@ -1,63 +1,38 @@
 -- How loading goes on from one clause to the next.
 use Rattle.std.proofs.Common.{◌≡◌, ℕ, ◌+◌, ◌<◌, ◌≤◌, List, [], ◌∷◌, ◌++◌, length, drop, get_or, refl, ap, ◌∙◌, sym, subst, arith, map}
-use Rattle.std.specs.Prelude.{Option, Some, None, Result, Ok, Err, if◌then◌else◌, All}
+use Rattle.std.specs.Prelude.{Option, Some, None, Result, Ok, Err, if◌then◌else◌}
 use Rattle.std.proofs.lemmas.Bool.{lt-ltb, le-ltb}
 use Rattle.std.proofs.lemmas.List.{drop_all}
-use Rattle.clp_model.specs.declared.sort.Sort.{Sort}
 use Rattle.clp_model.specs.declared.limit.Limit.{Limit}
 use Rattle.clp_model.specs.declared.limit.Limit.TheVariants.{Nodes}
 use Rattle.clp_model.specs.declared.tree.Variable.{Variable}
 use Rattle.clp_model.specs.declared.tree.Tree.{Tree}
 use Rattle.clp_model.specs.declared.clause.SourceClause.{SourceClause}
-use Rattle.clp_model.specs.Trees.{variables_in, IsApplication}
 use Rattle.clp_model.specs.Clauses.{Clause as Meaning, of_source}
-use Rattle.clp_model.specs.Canonical.{clause_size, new_clause, IsCanonical}
-use Rattle.term_store.specs.Trees.{trees_at, AreIn, Keeps}
-use Rattle.term_store.proofs.Keeping.{keeps_all, keeps_in}
+use Rattle.clp_model.specs.Canonical.{clause_size, new_clause}
+use Rattle.term_store.specs.Trees.{Keeps}
 use Rattle.clause_core.specs.declared.clause.Clause.{Clause}
 use Rattle.clause_core.specs.declared.fault.ClauseFault.{ClauseFault}
 use Rattle.clause_core.specs.declared.fault.ClauseFault.TheVariants as fault
-use Rattle.clause_core.specs.Stored.{clause_in, HasSort, AreParts, IsStored, IsRefused}
+use Rattle.clause_core.specs.Stored.{clause_in, IsStored, IsRefused}
+use Rattle.clause_core.proofs.Kept.{clause_in_kept, is_stored_kept}
 use Rattle.clp_syntax.specs.Load.{counted, loaded_after}
 use Rattle.clp_syntax.specs.Loaded.{place_of, clauses_in, AreStored, IsStopped}
 use Rattle.clp_syntax.proofs.Items.{drop_more}
 
 -- ---- in a store that keeps its terms
 
-parts_kept : (old new : List (Tree Variable)) (head : ℕ) (atoms : List ℕ) (sorts : List Sort) → Keeps old new → AreParts old head atoms sorts → AreParts new head atoms sorts
-parts_kept old new head atoms sorts k parts =
-    let e : trees_at new (head ∷ atoms) ≡ trees_at old (head ∷ atoms) = keeps_all old new k (head ∷ atoms) parts.within in
-    let P : List (Tree Variable) → Type 0 = All IsApplication in
-    let Q : List (Tree Variable) → Type 0 = λ ts. All (HasSort sorts) (variables_in ts) in
-    record {
-      within = keeps_in old new k (head ∷ atoms) parts.within;
-      applications = subst P (sym e) parts.applications;
-      sorted = subst Q (sym e) parts.sorted;
-    }
-
-clause_kept : (old new : List (Tree Variable)) (c : Clause) → Keeps old new → AreIn old (c.head ∷ c.atoms) → clause_in new c ≡ clause_in old c
-clause_kept old new c k within =
-    let e = keeps_all old new k (c.head ∷ []) (within.0, tt) in
-    let f = keeps_all old new k c.atoms within.1 in
-    cc
-
-stored_kept : (old new : List (Tree Variable)) (c : Clause) → Keeps old new → IsStored old c → IsStored new c
-stored_kept old new c k h = record {
-  parts = parts_kept old new c.head c.atoms c.sorts k h.parts;
-  canonical = subst IsCanonical (sym (clause_kept old new c k h.parts.within)) h.canonical;
-}
-
 pub clauses_kept : (old new : List (Tree Variable)) (cs : List (Option Clause)) → Keeps old new → AreStored old cs → clauses_in new cs ≡ clauses_in old cs
 clauses_kept old new [] k all = refl
 clauses_kept old new (Some c ∷ cs) k all =
-    let one = clause_kept old new c k all.0.parts.within in
+    let one = clause_in_kept old new c k all.0 in
     let rest = clauses_kept old new cs k all.1 in
     cc
 clauses_kept old new (None ∷ cs) k all = ap (λ v. None ∷ v) (clauses_kept old new cs k all.1)
 
 pub are_stored_kept : (old new : List (Tree Variable)) (cs : List (Option Clause)) → Keeps old new → AreStored old cs → AreStored new cs
 are_stored_kept old new [] k all = tt
-are_stored_kept old new (Some c ∷ cs) k all = (stored_kept old new c k all.0, are_stored_kept old new cs k all.1)
+are_stored_kept old new (Some c ∷ cs) k all = (is_stored_kept old new c k all.0, are_stored_kept old new cs k all.1)
 are_stored_kept old new (None ∷ cs) k all = (tt, are_stored_kept old new cs k all.1)
 
 clauses_push : (store : List (Tree Variable)) (cs : List (Option Clause)) (c : Clause) → clauses_in store (cs ++ Some c ∷ []) ≡ clauses_in store cs ++ Some (clause_in store c) ∷ []

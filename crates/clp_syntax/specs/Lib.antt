@@ -7,3 +7,4 @@ pub mod WellFormed
 pub mod Sorted
 pub mod Load
 pub mod Loaded
+pub mod Found

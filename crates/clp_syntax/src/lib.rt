@@ -4,6 +4,7 @@
 #![tactic(auto)]
 
 mod build;
+mod found;
 mod laws;
 mod loading;
 mod predicates;
@@ -20,6 +21,10 @@ pub use program::{printed_clauses_are_read_again, read_program, what_is_read_is_
 pub use text_error::TextError;
 
 #[cfg(test)]
+mod load_tests;
+
+#[cfg(test)]
 mod print_tests;
+
 #[cfg(test)]
 mod tests;

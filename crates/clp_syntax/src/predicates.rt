@@ -1,29 +1,20 @@
 //! The predicates of a program.
 
 ghost use Rattle.std.specs.Prelude.{◌≡◌, ◌≤◌, ◌∷◌, [], map, All, IfOk, OnOk};
-ghost use Rattle.std.specs.List.{list_any};
 ghost use Rattle.clp_model.specs.Trees.{size, IsApplication};
 ghost use Rattle.clp_model.specs.Clauses.{of_source};
 ghost use Rattle.clp_model.specs.Predicates.{predicate_of, clause_predicates, program_predicates, initial_predicates, same_predicate, with_element, distinct_after};
 ghost use Rattle.clp_syntax.specs.WellFormed.{IsWellFormed, IsSmallSource};
 
+use crate::found::Found;
 use clause_core::{Pred, SourceClause, Tree};
-use clp_model::Name;
 use sqlite_items::Items;
 use std::alloc::Global;
 use term_store::NoMemory;
 
-fn is_found(found: &[Pred], name: &str, arity: u32) -> bool
-    ensures { result ≡ list_any (λ p. same_predicate p (record { name = name.now; arity = arity })) found.now }
-{
-    found
-        .iter()
-        .any(|p| p.name.as_str() == name && p.arity == arity)
-}
-
 /// Puts the predicate of an atom last, unless it is there.
 #[tactic(auto, using(clp_model::proofs::Trees::name_of_app, clp_model::proofs::Trees::arguments_of_app, clp_model::proofs::Trees::not_application_var, crate::proofs::Collecting::few_arguments))]
-fn note(alloc: Global, found: &mut Items<Pred>, atom: &Tree) -> Result<(), NoMemory>
+fn note(alloc: Global, found: &mut Found, atom: &Tree) -> Result<(), NoMemory>
     requires application { IsApplication atom.now }
     requires small { size atom.now ≤ 4096 }
     ensures { OnOk result (found.new ≡ with_element same_predicate found.old (predicate_of atom.now)) }
@@ -31,20 +22,10 @@ fn note(alloc: Global, found: &mut Items<Pred>, atom: &Tree) -> Result<(), NoMem
     let Tree::App(name, args) = atom else {
         unreachable!();
     };
-    let arity = args.len() as u32;
-    if is_found(found.as_slice(), name.as_str(), arity) {
-        return Ok(());
-    }
-    let name = Name::copy_of(alloc, name.as_str())?;
-    found.push(Pred { name, arity })?;
-    Ok(())
+    found.note(alloc, name.as_str(), args.len() as u32)
 }
 
-fn note_clause(
-    alloc: Global,
-    found: &mut Items<Pred>,
-    source: &SourceClause,
-) -> Result<(), NoMemory>
+fn note_clause(alloc: Global, found: &mut Found, source: &SourceClause) -> Result<(), NoMemory>
     requires formed { IsWellFormed source.now }
     requires small { IsSmallSource source.now }
     ensures { OnOk result (found.new ≡ distinct_after same_predicate found.old (clause_predicates (of_source source.now))) }
@@ -62,9 +43,9 @@ pub fn predicates_of(alloc: Global, source: &[SourceClause]) -> Result<Items<Pre
     requires small { All IsSmallSource source.now }
     ensures { IfOk result (λ preds. preds ≡ initial_predicates (map of_source source.now)) }
 {
-    let mut found = Items::new(alloc);
+    let mut found = Found::new(alloc);
     for clause in source {
         note_clause(alloc, &mut found, clause)?;
     }
-    Ok(found)
+    found.list(alloc)
 }
