@@ -22,9 +22,7 @@ pub use text_error::TextError;
 
 #[cfg(test)]
 mod load_tests;
-
 #[cfg(test)]
 mod print_tests;
-
 #[cfg(test)]
 mod tests;
