@@ -17,7 +17,8 @@ use Rattle.clause_core.specs.declared.fault.ClauseFault.TheVariants as fault
 use Rattle.clause_core.specs.Stored.{clause_in, IsStored, IsRefused}
 use Rattle.clause_core.proofs.Kept.{clause_in_kept, is_stored_kept}
 use Rattle.clp_syntax.specs.Load.{counted, loaded_after}
-use Rattle.clp_syntax.specs.Loaded.{place_of, clauses_in, AreStored, IsStopped}
+use Rattle.clp_syntax.specs.Loaded.{clauses_in, AreStored, IsStopped}
+use Rattle.std.specs.Prelude.{option_map}
 use Rattle.clp_syntax.proofs.Items.{drop_more}
 
 -- ---- in a store that keeps its terms
@@ -28,20 +29,21 @@ clauses_kept old new (Some c ∷ cs) k all =
     let one = clause_in_kept old new c k all.0 in
     let rest = clauses_kept old new cs k all.1 in
     cc
-clauses_kept old new (None ∷ cs) k all = ap (λ v. None ∷ v) (clauses_kept old new cs k all.1)
+clauses_kept old new (None ∷ cs) k all = ap (λ v. None ∷ v) (clauses_kept old new cs k all)
 
 pub are_stored_kept : (old new : List (Tree Variable)) (cs : List (Option Clause)) → Keeps old new → AreStored old cs → AreStored new cs
 are_stored_kept old new [] k all = tt
 are_stored_kept old new (Some c ∷ cs) k all = (is_stored_kept old new c k all.0, are_stored_kept old new cs k all.1)
-are_stored_kept old new (None ∷ cs) k all = (tt, are_stored_kept old new cs k all.1)
+are_stored_kept old new (None ∷ cs) k all = are_stored_kept old new cs k all
 
 clauses_push : (store : List (Tree Variable)) (cs : List (Option Clause)) (c : Clause) → clauses_in store (cs ++ Some c ∷ []) ≡ clauses_in store cs ++ Some (clause_in store c) ∷ []
 clauses_push store [] c = refl
-clauses_push store (o ∷ cs) c = ap (λ v. place_of store o ∷ v) (clauses_push store cs c)
+clauses_push store (o ∷ cs) c = ap (λ v. option_map (clause_in store) o ∷ v) (clauses_push store cs c)
 
 stored_push : (store : List (Tree Variable)) (cs : List (Option Clause)) (c : Clause) → AreStored store cs → IsStored store c → AreStored store (cs ++ Some c ∷ [])
 stored_push store [] c all one = (one, tt)
-stored_push store (o ∷ cs) c all one = (all.0, stored_push store cs c all.1 one)
+stored_push store (None ∷ cs) c all one = stored_push store cs c all one
+stored_push store (Some d ∷ cs) c all one = (all.0, stored_push store cs c all.1 one)
 
 -- one more clause is stored
 pub stored_more : (old new : List (Tree Variable)) (cs more : List (Option Clause)) (c : Clause) → Keeps old new → AreStored old cs → IsStored new c → more ≡ cs ++ Some c ∷ [] → AreStored new more

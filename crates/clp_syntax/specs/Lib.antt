@@ -1,3 +1,6 @@
+pub mod Input
+pub mod Grammar
+pub mod Readable
 pub mod Print
 pub mod Listed
 pub mod WellFormed

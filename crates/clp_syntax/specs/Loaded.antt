@@ -1,6 +1,5 @@
 -- What a loaded program stands for.
-use Rattle.std.specs.Prelude.{◌≡◌, List, [], ◌∷◌, Option, Some, None, Result, Err}
-use Rattle.std.specs.Option.{IfSome}
+use Rattle.std.specs.Prelude.{◌≡◌, List, [], ◌∷◌, map, Option, Some, None, option_map, Result, Err}
 use Rattle.clp_model.specs.declared.tree.Tree.{Tree}
 use Rattle.clp_model.specs.declared.tree.Variable.{Variable}
 use Rattle.clp_model.specs.declared.limit.Limit.{Limit}
@@ -14,23 +13,19 @@ use Rattle.clp_syntax.specs.declared.loading.LoadFault.{LoadFault}
 use Rattle.clp_syntax.specs.declared.loading.LoadFault.TheVariants as fault
 use Rattle.clp_syntax.specs.Load.{Program, load}
 
--- the clause at a place, if there is one
-abbrev pub place_of : List (Tree Variable) → Option Clause → Option Meaning
-place_of store (Some c) = Some (clause_in store c)
-place_of store None = None
-
+-- the clauses at the places that have one
 abbrev pub clauses_in : List (Tree Variable) → List (Option Clause) → List (Option Meaning)
-clauses_in store [] = []
-clauses_in store (c ∷ cs) = place_of store c ∷ clauses_in store cs
+clauses_in store clauses = map (option_map (clause_in store)) clauses
 
 -- the program that was loaded
 abbrev pub program_of : Loaded → Program
-program_of l = record { clauses = clauses_in l.store l.clauses; predicates = l.preds }
+program_of l = record { clauses = clauses_in l.store l.clauses.items; predicates = l.preds }
 
 -- each clause is stored
 abbrev pub AreStored : List (Tree Variable) → List (Option Clause) → Type 0
 AreStored store [] = Unit {0}
-AreStored store (c ∷ cs) = IfSome c (IsStored store) × AreStored store cs
+AreStored store (None ∷ cs) = AreStored store cs
+AreStored store (Some c ∷ cs) = IsStored store c × AreStored store cs
 
 -- the limit is the one that refuses the first refused clause
 abbrev pub IsLoadRefused : List Meaning → LoadFault → Type 0

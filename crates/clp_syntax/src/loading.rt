@@ -1,6 +1,6 @@
 //! Loads a program: makes the clauses of its source clauses.
 
-ghost use Rattle.std.specs.Prelude.{◌≡◌, ◌≤◌, [], map, All, Ok, IfOk, IfErr, OnOk};
+ghost use Rattle.std.specs.Prelude.{◌≡◌, ◌≤◌, ◌++◌, ◌∷◌, [], map, All, Ok, Some, IfOk, IfErr, OnOk};
 ghost use Rattle.clp_model.specs.Clauses.{of_source};
 ghost use Rattle.clp_model.specs.Canonical.{new_clause};
 ghost use Rattle.term_store.specs.Trees.{Keeps};
@@ -24,7 +24,7 @@ pub struct Loaded {
     pub store: Store,
     /// A place for each source clause. Each has its clause: a place stays empty only where a clause has no instance,
     /// and none of those that can be written yet is such a clause.
-    pub clauses: Items<Option<Clause>>,
+    pub clauses: Vec<Option<Clause>>,
     /// Each predicate that occurs in the program, once, by first occurrence.
     pub preds: Items<Pred>,
 }
@@ -57,18 +57,28 @@ fn load_clause(
     }
 }
 
+fn put_clause(clauses: &mut Vec<Option<Clause>>, clause: Clause) -> Result<(), ClauseFault>
+    ensures ok { OnOk result (clauses.new.items ≡ clauses.old.items ++ Some clause ∷ []) }
+    ensures err { IfErr result (λ e. e ≡ ClauseFault.NoMemory) }
+{
+    match clauses.push(Some(clause)) {
+        Ok(()) => Ok(()),
+        Err(_) => Err(ClauseFault::NoMemory),
+    }
+}
+
 fn load_clauses(
     alloc: Global,
     store: &mut Store,
     source: &[SourceClause],
-) -> Result<Items<Option<Clause>>, ClauseFault>
+) -> Result<Vec<Option<Clause>>, ClauseFault>
     requires { All IsWellFormed source.now }
-    ensures made { IfOk result (λ cs. spec.loaded_after [] 0 (map of_source source.now) ≡ Ok (clauses_in store.new cs)) }
-    ensures stored { IfOk result (AreStored store.new) }
+    ensures made { IfOk result (λ cs. spec.loaded_after [] 0 (map of_source source.now) ≡ Ok (clauses_in store.new cs.items)) }
+    ensures stored { IfOk result (λ cs. AreStored store.new cs.items) }
     ensures small { OnOk result (All IsSmallSource source.now) }
     ensures refused { IfErr result (IsStopped (spec.loaded_after [] 0 (map of_source source.now))) }
 {
-    let mut clauses = Items::new(alloc);
+    let mut clauses = Vec::new(alloc);
     let mut nodes = 0;
     for one in source {
         let clause = load_clause(alloc, store, one)?;
@@ -76,7 +86,7 @@ fn load_clauses(
         if nodes > MAX_NODES {
             return Err(ClauseFault::TooLarge(Limit::Nodes));
         }
-        clauses.push(Some(clause))?;
+        put_clause(&mut clauses, clause)?;
     }
     Ok(clauses)
 }
@@ -92,7 +102,7 @@ fn load_clauses(
 pub fn load(alloc: Global, source: &[SourceClause]) -> Result<Loaded, LoadFault>
     requires { All IsWellFormed source.now }
     ensures ok { IfOk result (λ l. spec.load (map of_source source.now) ≡ Ok (program_of l)) }
-    ensures stored { IfOk result (λ l. AreStored l.store l.clauses) }
+    ensures stored { IfOk result (λ l. AreStored l.store l.clauses.items) }
     ensures refused { IfErr result (IsLoadRefused (map of_source source.now)) }
 {
     let mut store = Store::new(alloc);

@@ -7,8 +7,8 @@ use Rattle.clp_syntax.proofs.loading.load_clauses.Given as goal
 
 abbrev pub invariant-loop-one : goal.invariant-loop-one
 invariant-loop-one l = record {
-  rest : loaded_from l.source 0 [] 0 ≡ loaded_from l.source l.one-index (clauses_in l.store l.clauses) l.nodes;
-  stored : AreStored l.store l.clauses;
+  rest : loaded_from l.source 0 [] 0 ≡ loaded_from l.source l.one-index (clauses_in l.store l.clauses.items) l.nodes;
+  stored : AreStored l.store l.clauses.items;
   few : l.nodes ≤ 8388608;
   small : All IsSmallSource (take l.one-index l.source);
 }
