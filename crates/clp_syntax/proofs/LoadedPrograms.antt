@@ -1,15 +1,12 @@
 -- What a program is loaded as.
-use Rattle.std.proofs.Common.{◌≡◌, ℕ, zero, suc, ◌+◌, ◌≤◌, ◌<◌, List, [], ◌∷◌, ◌++◌, length, refl, sym, ◌∙◌, ap, subst, map, arith, ◌↔◌, Bool, true, false, append_assoc}
-use Rattle.std.specs.Prelude.{Option, Some, None, Result, Ok, Err, All, Contains, nat_lt, if◌then◌else◌}
+use Rattle.std.proofs.Common.{◌≡◌, ℕ, suc, ◌+◌, ◌≤◌, List, [], ◌∷◌, ◌++◌, length, refl, sym, ◌∙◌, ap, map, arith, Bool, true, false, append_assoc}
+use Rattle.std.specs.Prelude.{Option, Some, Result, Ok, Err, All, nat_lt, if◌then◌else◌}
 use Rattle.std.proofs.lemmas.Bool.{ltb-false, le-ltb}
 use Rattle.std.proofs.lemmas.List.Elements.{All-nil, All-cons, All-head, All-tail, All-weaker}
 use Rattle.clp_model.specs.declared.limit.Limit.{Limit}
 use Rattle.clp_model.specs.declared.limit.Limit.TheVariants.{Nodes}
-use Rattle.clp_model.specs.declared.predicate.Pred.{Pred}
-use Rattle.clp_model.specs.Values.{GroundAtom}
 use Rattle.clp_model.specs.Clauses.{Clause}
-use Rattle.clp_model.specs.Proof.{Provable}
-use Rattle.clp_model.specs.Canonical.{canonical_form, new_clause, clause_size, IsCanonical}
+use Rattle.clp_model.specs.Canonical.{new_clause, clause_size, IsCanonical}
 use Rattle.clp_model.specs.Predicates.{initial_predicates}
 use Rattle.clp_model.specs.declared.clause.SourceClause.{SourceClause}
 use Rattle.clp_model.specs.Clauses.{of_source}
@@ -20,11 +17,8 @@ use Rattle.clp_syntax.specs.Readable.{IsPlainAtom, IsReadable, AreReadable, IsPr
 use Rattle.clp_syntax.specs.WellFormed.{IsWellFormed}
 use Rattle.clp_syntax.proofs.Programs.{program_again}
 use Rattle.clp_syntax.specs.Load.{Program, sizes_of, counted, loaded_after, with_predicates, load}
-use Rattle.clp_meaning.specs.Laws.{HasNoConstraint, HasInstancesOf, HasClausesOf}
-use Rattle.clp_meaning.proofs.Membership.{Among, first, next, to_among, from_among}
-use Rattle.clp_meaning.proofs.Canonical.{new_clause_is_canonical, canonical_is_new}
-use Rattle.clp_meaning.proofs.Renaming.{canonical_form_keeps_instances}
-use Rattle.clp_meaning.proofs.Carrying.{same_instances_keep_provability}
+use Rattle.clp_meaning.proofs.Membership.{Among, first, next}
+use Rattle.clp_meaning.proofs.Canonical.{canonical_is_new}
 
 -- each of the clauses was made of the source clause at its place
 pub data Made : List Clause → List Clause → Type 0 where
