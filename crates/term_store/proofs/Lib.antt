@@ -1,0 +1,4 @@
+pub mod Keeping
+pub mod Built
+pub mod Applications
+pub mod Copies
