@@ -2,3 +2,4 @@ pub mod State
 pub mod After
 pub mod Texts
 pub mod SameTree
+pub mod Law

@@ -1,0 +1,4 @@
+pub mod SameTree
+pub mod Merged
+pub mod Live
+pub mod Keeping
