@@ -2,3 +2,5 @@ pub mod SameTree
 pub mod Merged
 pub mod Live
 pub mod Keeping
+pub mod Plain
+pub mod Sound
