@@ -4,3 +4,4 @@ pub mod Live
 pub mod Keeping
 pub mod Plain
 pub mod Sound
+pub mod Loading
