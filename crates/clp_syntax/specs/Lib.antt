@@ -1,5 +1,5 @@
 pub mod Input
 pub mod Grammar
 pub mod Readable
-pub mod Load
 pub mod Print
+pub mod Load

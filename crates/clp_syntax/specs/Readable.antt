@@ -1,9 +1,11 @@
--- What holds of each clause that is read.
+-- What holds of each clause that is read, and which printed clauses are read again.
 use Rattle.std.specs.Prelude.{◌≡◌, ℕ, ◌+◌, ◌<◌, ◌≤◌, false, List, ◌∷◌, length, All}
 use Rattle.clp_tokens.specs.Tokens.{IsPlainName}
 use Rattle.clp_model.specs.declared.sort.Sort.TheVariants.{Any}
 use Rattle.clp_model.specs.declared.tree.Tree.{Tree, Var, App', Row_of-Tree, end_of-Tree, more_of-Tree}
 use Rattle.clp_model.specs.declared.clause.SourceClause.{SourceClause}
+use Rattle.clp_model.specs.Clauses.{Clause}
+use Rattle.clp_model.specs.Canonical.{IsCanonical}
 use Rattle.clp_model.specs.Trees.{greatest_depth, variables_in, IsApplication}
 use Rattle.clp_syntax.specs.Grammar.{max_open, max_clauses, is_true}
 
@@ -38,3 +40,9 @@ pub record IsReadable (c : SourceClause) : Type 0 where
 pub record AreReadable (cs : List SourceClause) : Type 0 where
   pub each : All IsReadable cs
   pub few : length cs ≤ max_clauses
+
+-- A clause whose text is read as this clause. In canonical form it has no equations and no rows.
+pub record IsPrintable (c : Clause) : Type 0 where
+  pub canonical : IsCanonical c
+  pub sorts : All (λ s. s ≡ Any) c.sorts
+  pub atoms : All IsPlainAtom (c.head ∷ c.body)

@@ -1,10 +1,12 @@
 //! Clauses and programs.
 
-ghost use Rattle.std.specs.Prelude.{[], ◌≡◌, ◌<◌, ◌^◌, length, map, IfOk};
+ghost use Rattle.std.specs.Prelude.{[], ◌≡◌, ◌<◌, ◌^◌, ℕ, List, length, IfOk, Ok};
 ghost use Rattle.clp_tokens.specs.Parsers.{Reads, Gives};
 ghost use Rattle.clp_tokens.specs.Cursor as cursor;
 ghost use Rattle.clp_syntax.specs.Grammar as spec;
 ghost use Rattle.clp_syntax.specs.Input as input;
+ghost use Rattle.clp_syntax.specs.Readable.{AreReadable};
+ghost use Rattle.clp_model.specs.declared.clause.SourceClause.{SourceClause as S};
 
 use crate::reader::Reader;
 use crate::term::{MAX_OPEN, term};
@@ -143,9 +145,11 @@ pub fn read_clauses(alloc: Global, text: &[u8]) -> Result<Items<SourceClause>, R
 /// # Errors
 ///
 /// `Fault` exactly where the text is no program, and `NoMemory` where there was not enough of it.
+#[tactic(auto, using(crate::proofs::Readable::program_readable))]
 pub fn read_program(alloc: Global, text: &[u8]) -> Result<Items<SourceClause>, TextError>
     requires { length text.now < 2 ^ 32 }
-    ensures { spec.Tells (spec.program text.now) result }
+    ensures read { spec.Tells (spec.program text.now) result }
+    ensures readable { IfOk result AreReadable }
 {
     match read_clauses(alloc, text) {
         Ok(found) => Ok(found),
@@ -153,3 +157,9 @@ pub fn read_program(alloc: Global, text: &[u8]) -> Result<Items<SourceClause>, T
         Err(ReadError::Fault(_)) => Err(TextError::Fault),
     }
 }
+
+/// What a text is read as: heads and body atoms are applications of plain names and not `true` without
+/// arguments, variables have their sorts, and brackets and clauses are within their limits.
+pub fn what_is_read_is_readable()
+    ensures { (text : List ℕ) (cs : List S) → spec.program text ≡ Ok cs → AreReadable cs }
+{}

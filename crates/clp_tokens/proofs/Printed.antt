@@ -12,7 +12,7 @@ use Rattle.clp_tokens.specs.declared.token.TokenKind.TheVariants as k
 use Rattle.clp_tokens.specs.declared.token.Token.{Token}
 use Rattle.clp_tokens.specs.Numbers.{digits_len, number_value, max_number, joins_number}
 use Rattle.clp_tokens.specs.Tokens.{is_word, is_white, word_len, token, word, number, kind_of_digits, mark, AreWord, IsPlainName, max_name}
-use Rattle.clp_tokens.specs.Cursor.{kind, spelling, ahead, next, sees, after, expected, same_kind}
+use Rattle.clp_tokens.specs.Cursor.{kind, spelling, ahead, next, sees, after, expect, same_kind}
 
 -- this token comes next, and this text after it
 pub record NextIs (text : List ℕ) (what : TokenKind) (bytes rest : List ℕ) : Type 0 where
@@ -217,13 +217,13 @@ sees_next text what bytes rest wanted is = ap (λ found. same_kind found wanted)
 pub record Passes (text : List ℕ) (what : TokenKind) (rest : List ℕ) : Type 0 where
   pub sees : sees what text ≡ true
   pub after : after what text ≡ rest
-  pub expected : expected what text ≡ Ok tt
+  pub expect : expect what text ≡ Ok (tt, rest)
 
 pub passes_next : (text : List ℕ) (what : TokenKind) (bytes rest : List ℕ) → NextIs text what bytes rest → Passes text what rest
-unfolding after expected
+unfolding after expect
 passes_next text what bytes rest is =
     let e = sees_next text what bytes rest what is ∙ same_self what in
-    record { sees = e; after = rw e is.next; expected = rw e refl }
+    record { sees = e; after = rw e is.next; expect = rw e (ap (λ z. Ok (tt, z)) is.next) }
 
 -- another token is left where it is
 pub after_other : (text : List ℕ) (wanted : TokenKind) → sees wanted text ≡ false → after wanted text ≡ text

@@ -47,6 +47,11 @@ abbrev pub Reads : {S A : Type 0} → Outcome S A → Result A ReadError → S �
 Reads outcome (Ok a) new = outcome ≡ Ok (a, new)
 Reads outcome (Err e) new = Fails outcome e
 
+-- the result and the new state are this outcome, where no memory is taken
+abbrev pub ReadsExactly : {S A : Type 0} → Outcome S A → Result A Fault → S → Type 0
+ReadsExactly outcome (Ok a) new = outcome ≡ Ok (a, new)
+ReadsExactly outcome (Err f) new = outcome ≡ Err f
+
 -- the result of reading a whole text is this one, unless memory failed
 abbrev pub Gives : {A : Type 0} → Result A Fault → Result A ReadError → Type 0
 Gives outcome (Ok a) = outcome ≡ Ok a

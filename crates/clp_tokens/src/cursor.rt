@@ -1,7 +1,9 @@
 //! A cursor over the tokens of a text.
 
-ghost use Rattle.std.specs.Prelude.{◌≡◌};
+ghost use Rattle.std.specs.Prelude.{◌≡◌, OnErr};
+ghost use Rattle.std.specs.Bool.{OnTrue};
 ghost use Rattle.clp_tokens.specs.Cursor as spec;
+ghost use Rattle.clp_tokens.specs.Parsers.{ReadsExactly};
 ghost use Rattle.clp_tokens.specs.Numbers.{number_value as value_of_digits};
 ghost use Rattle.clp_tokens.specs.declared.token.TokenKind.TheVariants.{Number as number_kind};
 
@@ -28,7 +30,8 @@ impl<'a> Model for Cursor<'a> {
 
 #[tactic(auto, unfolding(crate::specs::Cursor::same_kind))]
 fn same_kind(a: TokenKind, b: TokenKind) -> bool
-    ensures { result ≡ spec.same_kind a b }
+    ensures value { result ≡ spec.same_kind a b }
+    ensures same { OnTrue result (a ≡ b) }
 {
     a == b
 }
@@ -121,7 +124,8 @@ impl<'a> Cursor<'a> {
     /// Whether a token of this kind comes next.
     #[tactic(auto, unfolding(crate::specs::Cursor::sees))]
     pub fn sees(&self, kind: TokenKind) -> bool
-        ensures { result ≡ spec.sees kind self.now }
+        ensures value { result ≡ spec.sees kind self.now }
+        ensures next { OnTrue result (spec.kind self.now ≡ kind) }
     {
         same_kind(self.peek(), kind)
     }
@@ -144,10 +148,10 @@ impl<'a> Cursor<'a> {
     /// # Errors
     ///
     /// Another token comes next: it is not passed.
-    #[tactic(auto, unfolding(crate::specs::Cursor::expected, crate::specs::Cursor::after))]
+    #[tactic(auto, unfolding(crate::specs::Cursor::expect))]
     pub fn expect(&mut self, kind: TokenKind) -> Result<(), Fault>
-        ensures found { result ≡ spec.expected kind self.old }
-        ensures after { self.new ≡ spec.after kind self.old }
+        ensures value { ReadsExactly (spec.expect kind self.old) result self.new }
+        ensures unmoved { OnErr result (self.new ≡ self.old) }
     {
         if self.sees(kind) {
             self.take();
