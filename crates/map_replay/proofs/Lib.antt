@@ -5,3 +5,4 @@ pub mod Keeping
 pub mod Plain
 pub mod Sound
 pub mod Loading
+pub mod Headline

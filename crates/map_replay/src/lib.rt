@@ -2,7 +2,9 @@
 #![tactic(auto)]
 
 mod refusal;
+mod replay_fault;
 mod step;
 
+pub use replay_fault::{LoadFault, ReplayFault};
 pub use refusal::{Refusal, refusal_text};
 pub use step::Step;
