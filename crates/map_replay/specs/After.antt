@@ -1,0 +1,145 @@
+-- What a step makes of a state, and what a script makes of it.
+use Rattle.std.specs.Prelude.{ℕ, zero, suc, ◌+◌, ◌-◌, List, [], ◌∷◌, ◌++◌, map, remove, slice_index_or, length, Bool, true, false, not, ◌&&◌, nat_eq, nat_lt, nat_le, if◌then◌else◌, Option, Some, None, Result, Ok, Err}
+use Rattle.clp_model.specs.declared.tree.Tree.{Tree, Var}
+use Rattle.clp_model.specs.declared.limit.Limit.{Limit}
+use Rattle.clp_model.specs.declared.limit.Limit.TheVariants.{Clauses, Nodes, Steps}
+use Rattle.clp_model.specs.Clauses.{Clause}
+use Rattle.clp_model.specs.Canonical.{new_clause, clause_size}
+use Rattle.map_replay.specs.declared.step.Step.{Step}
+use Rattle.map_replay.specs.declared.step.Step.TheVariants.{Merge}
+use Rattle.map_replay.specs.declared.refusal.Refusal.{Refusal}
+use Rattle.map_replay.specs.declared.refusal.Refusal.TheVariants.{NoClause, NoAtom, RepeatedPosition, NotEqualAtoms, TooLarge}
+use Rattle.map_replay.specs.State.{Entry, State, entry_at, live_count}
+use Rattle.map_replay.specs.SameTree.{same_tree}
+
+-- ---- What every step does that rewrites clauses
+
+-- a new clause before its canonical form, its mark and its parents
+pub record Draft : Type 0 where
+  pub clause : Clause
+  pub mark : Bool
+  pub parents : List ℕ
+
+-- the ids of the clauses that go, the clauses that come, and the step as it is kept in the history
+pub record Rewriting : Type 0 where
+  pub dead : List ℕ
+  pub made : List Draft
+  pub step : Step
+
+abbrev pub new_entry : ℕ → Draft → Clause → Entry
+new_entry number draft c = record { clause = c; mark = draft.mark; live = true; made_at = number; parents = draft.parents }
+
+abbrev pub put_first : (Clause → Entry) → Result Clause Limit → Result (List Entry) Limit → Result (List Entry) Limit
+put_first entry (Ok c) (Ok entries) = Ok (entry c ∷ entries)
+put_first entry (Ok c) (Err limit) = Err limit
+put_first entry (Err limit) rest = Err limit
+
+-- the entries of new clauses, each in canonical form, or the limit that the first bad one is past
+abbrev pub new_entries : ℕ → List Draft → Result (List Entry) Limit
+new_entries number [] = Ok []
+new_entries number (d ∷ ds) = put_first (new_entry number d) (new_clause d.clause) (new_entries number ds)
+
+-- the entry at this place is no longer live
+abbrev pub killed_at : List (Option Entry) → ℕ → List (Option Entry)
+killed_at [] place = []
+killed_at (None ∷ entries) zero = None ∷ entries
+killed_at (Some e ∷ entries) zero = Some (record e { live = false }) ∷ entries
+killed_at (e ∷ entries) (suc place) = e ∷ killed_at entries place
+
+-- the entries with these ids are no longer live
+abbrev pub killed : List (Option Entry) → List ℕ → List (Option Entry)
+killed entries [] = entries
+killed entries (id ∷ ids) = killed (killed_at entries (id - 1)) ids
+
+abbrev pub entries_nodes : List Entry → ℕ
+entries_nodes [] = 0
+entries_nodes (e ∷ es) = clause_size e.clause + entries_nodes es
+
+-- the dead are no longer live, the new entries take the next free ids, and the step is put last
+abbrev pub replaced : State → List ℕ → List Entry → Step → State
+replaced s dead entries step =
+    record s {
+      entries = killed s.entries dead ++ map Some entries;
+      steps = s.steps ++ step ∷ [];
+      nodes = s.nodes + entries_nodes entries;
+    }
+
+-- a new state, or the limit that it is past
+abbrev pub within_limits : State → Result State Refusal
+within_limits s =
+    if nat_lt 4096 (live_count s) then Err (TooLarge Clauses)
+    else (if nat_lt 8388608 s.nodes then Err (TooLarge Nodes)
+    else Ok s)
+
+abbrev pub replaced_by : State → List ℕ → Step → Result (List Entry) Limit → Result State Refusal
+replaced_by s dead step (Ok entries) = within_limits (replaced s dead entries step)
+replaced_by s dead step (Err limit) = Err (TooLarge limit)
+
+-- the state after a rewriting, or the first limit that is past: of each new clause in order, then of
+-- the live clauses, then of all nodes
+abbrev pub rewritten : State → Rewriting → Result State Refusal
+rewritten s r = replaced_by s r.dead r.step (new_entries (length s.steps + 1) r.made)
+
+-- ---- merge C at I,J
+
+-- the entry with this id, if it is live
+abbrev pub if_live : Option Entry → Option Entry
+if_live None = None
+if_live (Some e) = if e.live then Some e else None
+
+abbrev pub live_at : State → ℕ → Option Entry
+live_at s id = if_live (entry_at s id)
+
+-- positions count from 1
+abbrev pub in_range : List (Tree ℕ) → ℕ → Bool
+in_range atoms position = nat_lt 0 position && nat_le position (length atoms)
+
+abbrev pub same_at : List (Tree ℕ) → ℕ → ℕ → Bool
+same_at atoms i j = same_tree (slice_index_or atoms i (Var 0)) (slice_index_or atoms j (Var 0))
+
+-- the first broken condition on the positions, if there is one
+abbrev pub first_broken : List (Tree ℕ) → ℕ → ℕ → Option Refusal
+first_broken atoms first second =
+    if not (in_range atoms first) then Some (NoAtom first)
+    else (if not (in_range atoms second) then Some (NoAtom second)
+    else (if nat_eq first second then Some (RepeatedPosition second)
+    else (if not (same_at atoms (first - 1) (second - 1)) then Some (NotEqualAtoms first second)
+    else None)))
+
+-- the clause without the atom at this position, and with its mark
+abbrev pub merged : Entry → ℕ → ℕ → Draft
+merged e id position =
+    record { clause = record e.clause { body = remove e.clause.body (position - 1) }; mark = e.mark; parents = id ∷ [] }
+
+abbrev pub unless_broken : Option Refusal → Result State Refusal → Result State Refusal
+unless_broken None next = next
+unless_broken (Some refusal) next = Err refusal
+
+abbrev pub merge_of : State → ℕ → ℕ → ℕ → Option Entry → Result State Refusal
+merge_of s id first second None = Err (NoClause id)
+merge_of s id first second (Some e) =
+    unless_broken (first_broken e.clause.body first second)
+    (rewritten s (record { dead = id ∷ []; made = merged e id second ∷ []; step = Merge id first second }))
+
+-- ---- One step, and all of a script
+
+abbrev pub by_rule : State → Step → Result State Refusal
+by_rule s (Merge id first second) = merge_of s id first second (live_at s id)
+
+-- the state after a step, or its first broken condition
+abbrev pub after : State → Step → Result State Refusal
+after s step = if nat_le 100000 (length s.steps) then Err (TooLarge Steps) else by_rule s step
+
+abbrev pub go_on : ℕ → (State → Result State (ℕ × Refusal)) → Result State Refusal → Result State (ℕ × Refusal)
+go_on number next (Ok s) = next s
+go_on number next (Err refusal) = Err (number, refusal)
+
+-- the state after steps of which the first has this number, or the number and refusal of the first
+-- that is refused
+abbrev pub run_from : ℕ → State → List Step → Result State (ℕ × Refusal)
+run_from number s [] = Ok s
+run_from number s (step ∷ steps) = go_on number (λ t. run_from (suc number) t steps) (after s step)
+
+-- the state after a script, or the number, from 1, and refusal of the first refused step
+abbrev pub run : State → List Step → Result State (ℕ × Refusal)
+run s steps = run_from 1 s steps
