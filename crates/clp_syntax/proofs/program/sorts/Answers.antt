@@ -1,0 +1,7 @@
+use Rattle.std.proofs.Common.{ap, refl, ◌∙◌, rules, Ok}
+use Rattle.clp_syntax.specs.Grammar.{sorts}
+use Rattle.clp_syntax.proofs.program.sorts.Goals as goal
+
+pub returns : goal.returns
+unfolding sorts
+returns c = let e = c.in_ok-from_elem.ensures.items_if_clones_equal (λ y h. h) in cc
