@@ -2,3 +2,5 @@ pub mod State
 pub mod After
 pub mod Texts
 pub mod SameTree
+pub mod Script
+pub mod ScriptText

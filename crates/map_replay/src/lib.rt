@@ -2,7 +2,9 @@
 #![tactic(auto)]
 
 mod refusal;
+mod script;
 mod step;
 
 pub use refusal::{Refusal, refusal_text};
+pub use script::{printed_scripts_are_read_again, read_script};
 pub use step::Step;
