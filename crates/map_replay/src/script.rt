@@ -1,6 +1,6 @@
 //! Reads scripts.
 
-ghost use Rattle.std.specs.Prelude.{[], ◌≡◌, ◌≤◌, ◌&&◌, codes, length, List, IfOk};
+ghost use Rattle.std.specs.Prelude.{[], ◌≡◌, ◌≤◌, length, List, IfOk};
 ghost use Rattle.clp_tokens.specs.Parsers.{Reads, ReadsExactly, Gives};
 ghost use Rattle.clp_syntax.specs.Grammar.{Tells};
 ghost use Rattle.map_replay.specs.Script as spec;
@@ -31,6 +31,7 @@ fn refusal_as(cursor: &Cursor<'_>, other: Kind) -> Fault
     }
 }
 
+/// Passes this word; another token is a fault of this kind, where it has none of its own.
 #[tactic(auto, unfolding(crate::specs::Script::word_or, crate::specs::Script::sees_word))]
 fn word_or(cursor: &mut Cursor<'_>, other: Kind, wanted: &str) -> Result<(), Fault>
     ensures { ReadsExactly (spec.word_or other wanted.now cursor.old) result cursor.new }
@@ -49,7 +50,7 @@ fn word(cursor: &mut Cursor<'_>, wanted: &str) -> Result<(), Fault>
     word_or(cursor, Kind::Unexpected, wanted)
 }
 
-/// The number that comes next, which is then passed; one outside the limits is a fault of this kind.
+/// Passes a number from `low` to `high`; another number is a fault of this kind.
 #[tactic(auto, unfolding(crate::specs::Script::number_within))]
 fn number_within(cursor: &mut Cursor<'_>, low: u64, high: u64, other: Kind) -> Result<u64, Fault>
     ensures value { ReadsExactly (spec.number_within low high other cursor.old) result cursor.new }
@@ -145,7 +146,7 @@ fn read_steps(alloc: Global, text: &[u8]) -> Result<Items<Step>, ReadError>
 /// The steps of a script, in their order.
 ///
 /// A script is `map script 1.` and at most 100,000 steps `merge C at I,J.`, with white between tokens as is
-/// wanted. Numbers are at most 4,294,967,295 and may have leading zeros. The time is linear in the text.
+/// wanted. Numbers are at most 4,294,967,295 and may have leading zeros.
 ///
 /// # Errors
 ///
