@@ -3,8 +3,10 @@
 
 mod refusal;
 mod replay_fault;
+mod script;
 mod step;
 
 pub use replay_fault::{LoadFault, ReplayFault};
 pub use refusal::{Refusal, refusal_text};
+pub use script::{printed_scripts_are_read_again, read_script};
 pub use step::Step;
