@@ -8,3 +8,5 @@ pub mod Loading
 pub mod Headline
 pub mod Scripts
 pub mod ScriptsPrinted
+pub mod Running
+pub mod Printing
