@@ -1,5 +1,5 @@
 -- How a text gets shorter.
-use Rattle.std.proofs.Common.{◌≡◌, ℕ, ◌≤◌, Bool, true, false, List, length, cond, arith}
+use Rattle.std.proofs.Common.{ℕ, ◌≤◌, Bool, true, false, List, length, cond, arith}
 use Rattle.clp_tokens.specs.declared.token.TokenKind.{TokenKind}
 use Rattle.clp_tokens.specs.Cursor.{sees, after, next}
 use Rattle.clp_tokens.proofs.Spelled.{next_within}

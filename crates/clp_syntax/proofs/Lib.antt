@@ -5,3 +5,11 @@ pub mod Readable
 pub mod Order
 pub mod Terms
 pub mod Programs
+pub mod Texts
+pub mod Items
+pub mod Sorting
+pub mod Collecting
+pub mod Parts
+pub mod Stopping
+pub mod LoadedPrograms
+pub mod Noting

@@ -1,5 +1,5 @@
 -- The text of a program is read as this program.
-use Rattle.std.proofs.Common.{◌≡◌, ℕ, zero, suc, ◌+◌, ◌-◌, ◌<◌, ◌≤◌, ◌^◌, max, Bool, true, false, List, [], ◌∷◌, ◌++◌, length, take, drop, map, replicate, refl, ap, ◌∙◌, sym, arith, cond, append_assoc, append-nil, length-append, Ok, Err, Option, Some, None}
+use Rattle.std.proofs.Common.{◌≡◌, ℕ, zero, suc, ◌-◌, ◌<◌, ◌≤◌, ◌^◌, max, true, false, List, [], ◌∷◌, ◌++◌, length, take, drop, map, replicate, refl, ap, ◌∙◌, sym, arith, cond, append_assoc, append-nil, length-append, Ok, Err, Option, Some, None}
 use Rattle.std.proofs.lemmas.List.Elements.{All-head, All-tail}
 use Rattle.std.specs.Prelude.{All, if◌then◌else◌}
 use Rattle.std.specs.Option.{option_or}
@@ -7,21 +7,21 @@ use Rattle.clp_tokens.specs.declared.token.TokenKind.{TokenKind}
 use Rattle.clp_tokens.specs.declared.token.TokenKind.TheVariants as k
 use Rattle.clp_tokens.specs.declared.fault.Fault.{Fault}
 use Rattle.clp_tokens.specs.declared.fault.Kind.TheVariants.{Reserved}
-use Rattle.clp_tokens.specs.Tokens.{token, word_len}
+use Rattle.clp_tokens.specs.Tokens.{token}
 use Rattle.clp_tokens.specs.Cursor as cursor
-use Rattle.clp_tokens.specs.Parsers.{Outcome, Parser, and_then, ◌>>=◌, ◌>>◌, pure, value_of}
-use Rattle.clp_tokens.proofs.Printed.{NextIs, name_is, comma_is, if_is, end_is, ahead_white, after_white, sees_next, passes_next}
+use Rattle.clp_tokens.specs.Parsers.{Parser, and_then, ◌>>=◌, ◌>>◌, pure, value_of}
+use Rattle.clp_tokens.proofs.Printed.{NextIs, name_is, comma_is, if_is, end_is, ahead_white, after_white, sees_next}
 use Rattle.clp_model.specs.declared.sort.Sort.TheVariants.{Any}
-use Rattle.clp_model.specs.declared.tree.Tree.{Tree, Var, App, App', Row_of-Tree}
+use Rattle.clp_model.specs.declared.tree.Tree.{Tree, Var, App'}
 use Rattle.clp_model.specs.declared.clause.SourceClause.{SourceClause}
 use Rattle.clp_model.specs.Trees.{depth, greatest_depth, variables, variables_in, IsApplication}
 use Rattle.clp_model.specs.Clauses.{Clause, of_source}
 use Rattle.clp_model.proofs.Trees.{out_app}
-use Rattle.clp_syntax.specs.Input.{Input, at_text, start, anew, left, sees, eat, expect, refuse, separated_from, separated, note, settle}
-use Rattle.clp_syntax.specs.Grammar.{application, term_with, term_by, term, arguments, is_true, misplacement, goal, body, sorts, clause, clauses_from, program, past_limit, max_open, max_clauses}
+use Rattle.clp_syntax.specs.Input.{Input, anew, left, sees, eat, expect, separated_from, separated, note, settle}
+use Rattle.clp_syntax.specs.Grammar.{application, term_with, term_by, term, arguments, misplacement, goal, body, sorts, clause, clauses_from, program, past_limit, max_open, max_clauses}
 use Rattle.clp_syntax.specs.Readable.{HasPlainNames, IsPlainAtom, IsPrintable}
-use Rattle.clp_syntax.specs.Print.{term_text, arguments_text, atoms_text, body_text, end_text, clause_text, program_text}
-use Rattle.clp_syntax.proofs.Order.{InOrder, last_met, last_append, order_parts, HasOrder, canonical_order, sorts_are}
+use Rattle.clp_syntax.specs.Print.{term_text, arguments_text, atoms_text, body_text, clause_text, program_text}
+use Rattle.clp_syntax.proofs.Order.{InOrder, last_met, last_append, order_parts, canonical_order, sorts_are}
 use Rattle.clp_syntax.proofs.Terms.{input, eats, leaves, expects, Stops, stops_comma, arguments_word, known, length_known, met, met_is, IsInOrder, order_is, term_ahead, after_name, read_arguments}
 
 -- ---- heads and body atoms
@@ -54,9 +54,10 @@ are_read : (ts : List (Tree ℕ)) (m : ℕ) → All IsPlainAtom ts → greatest_
 are_read [] m plain deep order few = tt
 are_read (t ∷ ts) m plain deep order few =
     let parts = order_parts m (variables t) (variables_in ts) order in
-    let last : last_met m (variables t ++ variables_in ts) ≡ last_met (met m t) (variables_in ts) = last_append m (variables t) (variables_in ts) ∙ ap (λ z. last_met z (variables_in ts)) (sym (met_is t m)) in
-    (record { plain = All-head IsPlainAtom t ts plain; deep = omega arith; order = order_is t m parts.0; few = omega (arith, last, last_rises (met m t) (variables_in ts)) },
-      are_read ts (met m t) (All-tail IsPlainAtom t ts plain) (omega arith) (rw (met_is t m) parts.1) (omega (arith, last)))
+    let last : last_met m (variables t ++ variables_in ts) ≡ last_met (met m t) (variables_in ts) = last_append m (variables t) (variables_in ts) ∙ ap (λ z. last_met z (variables_in ts)) (sym (met_is t m)) in (
+      record { plain = All-head IsPlainAtom t ts plain; deep = omega arith; order = order_is t m parts.0; few = omega (arith, last, last_rises (met m t) (variables_in ts)) },
+      are_read ts (met m t) (All-tail IsPlainAtom t ts plain) (omega arith) (rw (met_is t m) parts.1) (omega (arith, last)),
+    )
 
 no_fault : (n : ℕ) (t : Tree ℕ) → IsPlainAtom t → misplacement n t ≡ None
 unfolding misplacement IsApplication

@@ -1,5 +1,5 @@
 -- What is read is readable.
-use Rattle.std.proofs.Common.{◌≡◌, ℕ, zero, suc, ◌+◌, ◌-◌, ◌<◌, ◌≤◌, max, Bool, true, false, List, [], ◌∷◌, ◌++◌, length, replicate, refl, ap, subst, ◌∙◌, sym, arith, cond, Option, Some, None, Ok, Err, length-append}
+use Rattle.std.proofs.Common.{◌≡◌, ℕ, zero, suc, ◌+◌, ◌≤◌, Bool, true, false, List, [], ◌∷◌, ◌++◌, length, replicate, refl, subst, arith, cond, Option, Some, None, Ok, Err, length-append}
 use Rattle.std.proofs.lemmas.List.{length-replicate}
 use Rattle.std.proofs.lemmas.List.Elements.{All-nil, All-cons, All-head, All-tail, All-append, All-push, All-weaker, All-replicate}
 use Rattle.std.proofs.lemmas.Bool.Decides.{nat_tests}
@@ -21,7 +21,7 @@ use Rattle.clp_model.specs.declared.tree.Tree.TheBlock.{items_hidden-the_row-Tre
 use Rattle.clp_model.specs.declared.clause.SourceClause.{SourceClause}
 use Rattle.clp_model.specs.Trees.{depth, greatest_depth, variables, variables_in, IsApplication}
 use Rattle.clp_model.proofs.Trees.{depth_app, depth_var, variables_app, variables_var}
-use Rattle.clp_syntax.specs.Input.{Input, start, anew, at_text, sees, expect, comes, eat, take_token, separated, separated_from, numbered, known_or_new, fresh, variable, here, note, unless, settle, left, fail, refuse}
+use Rattle.clp_syntax.specs.Input.{Input, start, anew, at_text, sees, expect, eat, separated, separated_from, numbered, known_or_new, fresh, variable, note, unless, settle, left, refuse}
 use Rattle.clp_syntax.specs.Grammar.{application, term_by, term_with, term, arguments, is_true, misplacement, goal, body, sorts, clause, clauses_from, program, max_open, max_clauses, past_limit}
 use Rattle.clp_syntax.specs.Readable.{HasPlainNames, HavePlainNames, IsPlainAtom, IsNumber, IsReadable, AreReadable}
 
@@ -135,10 +135,10 @@ record IsFine (d : ℕ) (i : Input) (t : Tree ℕ) : Type 0 where
 
 fine_stays : (d : ℕ) → Stays (IsFine d)
 fine_stays d i j g t h = record {
-    names = h.names;
-    deep = h.deep;
-    numbered = All-weaker (IsNumber (length i.names)) (IsNumber (length j.names)) (λ n p. (p.0, omega (arith, p.1, g.names))) (variables t) h.numbered;
-  }
+  names = h.names;
+  deep = h.deep;
+  numbered = All-weaker (IsNumber (length i.names)) (IsNumber (length j.names)) (λ n p. (p.0, omega (arith, p.1, g.names))) (variables t) h.numbered;
+}
 
 plain_row : (m : _) (ts : Row_of-Tree ℕ m) → All HasPlainNames (items-the_row-Tree ℕ m ts) → HavePlainNames ts
 unfolding HasPlainNames
@@ -160,18 +160,18 @@ all_variables P (t ∷ ts) h =
 
 app_fine : (d : ℕ) (i : Input) (name : List ℕ) (ts : List (Tree ℕ)) → IsPlainName name → All (IsFine d i) ts → IsFine (suc d) i (App name ts)
 app_fine d i name ts p h = record {
-    names = plain_app name ts p (All-weaker (IsFine d i) HasPlainNames (λ t f. f.names) ts h);
-    deep = omega (arith, depth_app name ts, greatest_within d ts (All-weaker (IsFine d i) (λ t. depth t ≤ d) (λ t f. f.deep) ts h));
-    numbered = rw (variables_app name ts) (all_variables (IsNumber (length i.names)) ts (All-weaker (IsFine d i) (λ t. All (IsNumber (length i.names)) (variables t)) (λ t f. f.numbered) ts h));
-  }
+  names = plain_app name ts p (All-weaker (IsFine d i) HasPlainNames (λ t f. f.names) ts h);
+  deep = omega (arith, depth_app name ts, greatest_within d ts (All-weaker (IsFine d i) (λ t. depth t ≤ d) (λ t f. f.deep) ts h));
+  numbered = rw (variables_app name ts) (all_variables (IsNumber (length i.names)) ts (All-weaker (IsFine d i) (λ t. All (IsNumber (length i.names)) (variables t)) (λ t f. f.numbered) ts h));
+}
 
 var_fine : (d : ℕ) (i : Input) (n : ℕ) → IsNumber (length i.names) n → IsFine (suc d) i (Var n)
 unfolding HasPlainNames
 var_fine d i n h = record {
-    names = tt;
-    deep = omega (arith, depth_var n);
-    numbered = rw (variables_var n) (All-cons (IsNumber (length i.names)) n [] h (All-nil (IsNumber (length i.names))));
-  }
+  names = tt;
+  deep = omega (arith, depth_var n);
+  numbered = rw (variables_var n) (All-cons (IsNumber (length i.names)) n [] h (All-nil (IsNumber (length i.names))));
+}
 
 -- arguments that were read where this many brackets may be open
 abbrev ReadsArguments : ℕ → Type 0
@@ -233,10 +233,10 @@ record IsGoal (i : Input) (t : Tree ℕ) : Type 0 where
 
 goal_stays : Stays IsGoal
 goal_stays i j g t h = record {
-    fine = fine_stays (suc max_open) i j g t h.fine;
-    application = λ e. h.application (g.kept e);
-    ordinary = λ e. h.ordinary (g.kept e);
-  }
+  fine = fine_stays (suc max_open) i j g t h.fine;
+  application = λ e. h.application (g.kept e);
+  ordinary = λ e. h.ordinary (g.kept e);
+}
 
 no_fault : (n : ℕ) (t : Tree ℕ) → misplacement n t ≡ None → IsApplication t × (is_true t ≡ false)
 unfolding misplacement IsApplication
@@ -285,12 +285,12 @@ settle_read i = go i.misplaced refl
 
 readable : (head : Tree ℕ) (atoms : List (Tree ℕ)) (i : Input) → i.misplaced ≡ None → All (IsGoal i) (head ∷ atoms) → IsReadable (record { head = head; atoms = atoms; sorts = replicate (length i.names) Any })
 readable head atoms i none all = record {
-    atoms = All-weaker (IsGoal i) IsPlainAtom (λ t g. record { application = g.application none; names = g.fine.names; ordinary = g.ordinary none }) (head ∷ atoms) all;
-    deep = greatest_within (suc max_open) (head ∷ atoms) (All-weaker (IsGoal i) (λ t. depth t ≤ suc max_open) (λ t g. g.fine.deep) (head ∷ atoms) all);
-    numbered = rw (length-replicate (length i.names) Any)
+  atoms = All-weaker (IsGoal i) IsPlainAtom (λ t g. record { application = g.application none; names = g.fine.names; ordinary = g.ordinary none }) (head ∷ atoms) all;
+  deep = greatest_within (suc max_open) (head ∷ atoms) (All-weaker (IsGoal i) (λ t. depth t ≤ suc max_open) (λ t g. g.fine.deep) (head ∷ atoms) all);
+  numbered = rw (length-replicate (length i.names) Any)
       (all_variables (IsNumber (length i.names)) (head ∷ atoms) (All-weaker (IsGoal i) (λ t. All (IsNumber (length i.names)) (variables t)) (λ t g. g.fine.numbered) (head ∷ atoms) all));
-    sorts = All-replicate (λ s. s ≡ Any) (length i.names) Any refl;
-  }
+  sorts = All-replicate (λ s. s ≡ Any) (length i.names) Any refl;
+}
 
 clause_read : (i : Input) → IfRead (clause i) (λ c j. IsReadable c)
 unfolding clause sorts

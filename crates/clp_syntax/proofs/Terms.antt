@@ -1,11 +1,10 @@
 -- The text of a term is read as this term.
-use Rattle.std.proofs.Common.{◌≡◌, ℕ, zero, suc, ◌+◌, ◌-◌, ◌<◌, ◌≤◌, ◌^◌, max, min, Bool, true, false, List, [], ◌∷◌, ◌++◌, length, take, drop, refl, ap, ◌∙◌, sym, arith, cond, append_assoc, Ok, Some, None, eqb, ◌⊎◌, inl, inr, length-append, append-nil}
+use Rattle.std.proofs.Common.{◌≡◌, ℕ, zero, suc, ◌+◌, ◌-◌, ◌<◌, ◌≤◌, ◌^◌, max, min, Bool, true, false, List, [], ◌∷◌, ◌++◌, length, drop, refl, ap, ◌∙◌, sym, arith, cond, append_assoc, Ok, Some, None, eqb, ◌⊎◌, inl, inr, length-append, append-nil}
 use Rattle.std.proofs.lemmas.Bool.Decides.{eqb_tells, nat_tests}
 use Rattle.std.proofs.lemmas.Fmt.{decimal_injective}
 use Rattle.std.proofs.lemmas.Slice.Eq.{bytes_eq-Decides}
 use Rattle.std.proofs.lemmas.List.Folds.{position_or_len_push}
 use Rattle.std.specs.Char.{is_ascii_lowercase}
-use Rattle.std.specs.Fmt.{decimal}
 use Rattle.std.specs.List.{position_or_len}
 use Rattle.std.specs.Prelude.{nat_lt, if◌then◌else◌}
 use Rattle.std.specs.Str.{bytes_eq}
@@ -18,7 +17,7 @@ use Rattle.clp_tokens.proofs.Printed.{NextIs, name_is, variable_is, open_is, clo
 use Rattle.clp_model.specs.declared.tree.Tree.{Tree, Var, App, App', Row_of-Tree, end_of-Tree, more_of-Tree, items-the_row-Tree}
 use Rattle.clp_model.specs.Trees.{depth, depths, variables, variables_in_row}
 use Rattle.clp_model.proofs.Trees.{out_app, depth_positive}
-use Rattle.clp_syntax.specs.Input.{Input, at_text, left, sees, comes, eat, expect, refuse, numbered, fresh, known_or_new, variable, separated_from, separated}
+use Rattle.clp_syntax.specs.Input.{Input, left, comes, eat, expect, refuse, numbered, fresh, known_or_new, variable, separated_from, separated}
 use Rattle.clp_syntax.specs.Grammar.{application, term_with, term_by, term, arguments}
 use Rattle.clp_syntax.specs.Readable.{HasPlainNames, HavePlainNames}
 use Rattle.clp_syntax.specs.Print.{variable_text, term_text, arguments_text, rest_text}

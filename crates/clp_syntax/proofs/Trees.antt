@@ -4,7 +4,7 @@ use Rattle.std.proofs.Common.{arith, ◌≡◌, ℕ, Bool, true, false, ◌&&◌
 use Rattle.std.specs.Prelude.{◌↔◌, IsTrue, nat_eq, codes}
 use Rattle.std.specs.Str.{bytes_eq}
 use Rattle.clp_model.specs.declared.tree.Tree.{Tree, App}
-use Rattle.clp_model.specs.Trees.{name_of, arguments_of}
+use Rattle.clp_model.specs.Trees.{name_of}
 use Rattle.clp_model.proofs.Trees.{arguments_of_app}
 use Rattle.clp_syntax.specs.Grammar.{is_true}
 

@@ -34,11 +34,13 @@ module _ (arguments : Parser Input (List (Tree ℕ))) where
     is_open ← comes k.Open
     if is_open then App name <$> arguments else pure (App name [])
 
+  -- by the kind of the token that comes next: a name with its arguments, or a variable
   abbrev pub term_by : TokenKind → Parser Input (Tree ℕ)
   term_by k.Name = application
   term_by k.Variable = Var <$> variable
   term_by _ = refuse
 
+  -- a term with these arguments
   unfoldable pub term_with : Parser Input (Tree ℕ)
   term_with = peek >>= term_by
 
@@ -51,6 +53,7 @@ arguments (suc more) = do
   expect k.Close
   pure found
 
+-- a term, where this many more brackets may be open
 abbrev pub term : ℕ → Parser Input (Tree ℕ)
 term more = term_with (arguments more)
 
@@ -73,6 +76,7 @@ goal = do
   note (misplacement left found)
   pure found
 
+-- `:-` and one or more goals, or nothing
 unfoldable pub body : Parser Input (List (Tree ℕ))
 body = do
   has_body ← eat k.If
@@ -82,6 +86,7 @@ body = do
 unfoldable pub sorts : Parser Input (List Sort)
 sorts = λ i. Ok (replicate (length i.names) Any, i)
 
+-- Tokens and grammar come first, up to and with the end; then the first head or goal that is no atom is told.
 unfoldable pub clause : Parser Input SourceClause
 clause = do
   head ← goal
@@ -93,6 +98,7 @@ clause = do
 
 -- ---- programs
 
+-- by the kind of the token that comes next: it begins a clause too many, or can begin none
 abbrev pub past_limit_by : TokenKind → List ℕ → Fault
 past_limit_by k.Name text = fault_at TooMany text
 past_limit_by k.Variable text = fault_at TooMany text

@@ -1,5 +1,5 @@
 -- What a reader of programs reads from, and the steps that its rules are made of.
-use Rattle.std.specs.Prelude.{ℕ, zero, suc, ◌+◌, Bool, if◌then◌else◌, List, [], ◌∷◌, ◌++◌, length, position, Option, Some, None, Result, Ok, Err}
+use Rattle.std.specs.Prelude.{ℕ, zero, suc, ◌+◌, Bool, if◌then◌else◌, List, [], ◌∷◌, ◌++◌, length, position, Option, Some, None, Ok, Err}
 use Rattle.std.specs.Option.{option_or}
 use Rattle.std.specs.Str.{bytes_eq}
 use Rattle.clp_tokens.specs.declared.token.TokenKind.{TokenKind}
@@ -9,6 +9,7 @@ use Rattle.clp_tokens.specs.declared.fault.Fault.{Fault}
 use Rattle.clp_tokens.specs.Cursor as cursor
 use Rattle.clp_tokens.specs.Parsers.{Parser, ◌>>=◌, pure}
 
+-- the text that is left, and what is known of the clause so far
 pub record Input : Type 0 where
   -- the text after the last token
   pub text : List ℕ
@@ -17,6 +18,7 @@ pub record Input : Type 0 where
   -- what is wrong with the first head or goal of the clause so far that is no atom
   pub misplaced : Option Fault
 
+-- before anything of a clause was read
 abbrev pub start : List ℕ → Input
 start text = record { text = text; names = []; misplaced = None }
 
@@ -34,6 +36,7 @@ left i = cursor.left i.text
 
 -- ---- tokens
 
+-- a token of this kind comes next
 abbrev pub sees : TokenKind → Input → Bool
 sees k i = cursor.sees k i.text
 
@@ -45,6 +48,7 @@ fail kind = λ i. Err (cursor.fault_at kind i.text)
 abbrev pub refuse : {A : Type 0} → Parser Input A
 refuse = λ i. Err (cursor.refusal i.text)
 
+-- the kind of the next token, which is not passed
 abbrev pub peek : Parser Input TokenKind
 peek = λ i. Ok (cursor.kind i.text, i)
 
@@ -81,6 +85,7 @@ separated item = λ i. separated_from item (left i) [] i
 unfoldable pub fresh : List ℕ → Parser Input ℕ
 fresh name = λ i. Ok (length i.names + 1, record i { names = i.names ++ name ∷ [] })
 
+-- the number at this place, or the next one for a name that has none
 abbrev pub known_or_new : List ℕ → Option ℕ → Parser Input ℕ
 known_or_new name (Some at) = pure (at + 1)
 known_or_new name None = fresh name
@@ -89,6 +94,7 @@ known_or_new name None = fresh name
 unfoldable pub numbered : List ℕ → Parser Input ℕ
 numbered name = λ i. if bytes_eq name (95 ∷ []) then fresh [] i else known_or_new name (position (bytes_eq name) i.names) i
 
+-- the variable that comes next
 unfoldable pub variable : Parser Input ℕ
 variable = take_token >>= numbered
 
@@ -102,6 +108,7 @@ here = λ i. Ok (left i, i)
 unfoldable pub note : Option Fault → Parser Input (Unit {0})
 note fault = λ i. Ok (tt, record i { misplaced = option_or i.misplaced fault })
 
+-- nothing, or this fault
 abbrev pub unless : Option Fault → Parser Input (Unit {0})
 unless None = pure tt
 unless (Some fault) = λ i. Err fault

@@ -2,4 +2,9 @@ pub mod Input
 pub mod Grammar
 pub mod Readable
 pub mod Print
+pub mod Listed
+pub mod WellFormed
+pub mod Sorted
 pub mod Load
+pub mod Loaded
+pub mod Found

@@ -13,6 +13,11 @@ pub record Program : Type 0 where
   pub clauses : List (Option Clause)
   pub predicates : List Pred
 
+-- the sizes of these clauses together
+abbrev pub sizes_of : List Clause → ℕ
+sizes_of [] = 0
+sizes_of (c ∷ cs) = clause_size c + sizes_of cs
+
 -- the sizes of all clauses made so far, this one too, are together within the limit
 abbrev pub counted : ℕ → (Clause → ℕ → Result (List (Option Clause)) Limit) → Result Clause Limit → Result (List (Option Clause)) Limit
 counted nodes next (Err limit) = Err limit

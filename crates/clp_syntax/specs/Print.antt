@@ -4,6 +4,7 @@ use Rattle.std.specs.Fmt.{decimal}
 use Rattle.clp_model.specs.declared.tree.Tree.{Tree, Var, App', Row_of-Tree, end_of-Tree, more_of-Tree}
 use Rattle.clp_model.specs.Clauses.{Clause}
 
+-- V and the number
 abbrev pub variable_text : ℕ → List ℕ
 variable_text n = codes "V" ++ decimal n
 
@@ -40,6 +41,7 @@ end_text = 46 ∷ 10 ∷ []
 unfoldable pub clause_text : Clause → List ℕ
 clause_text c = term_text c.head ++ (body_text c.body ++ end_text)
 
+-- the clauses in their order
 unfoldable pub program_text : List Clause → List ℕ
 program_text [] = []
 program_text (c ∷ cs) = clause_text c ++ program_text cs

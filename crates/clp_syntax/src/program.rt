@@ -109,7 +109,11 @@ fn past_limit(reader: &Reader<'_>) -> ReadError
 }
 
 #[tactic(auto, unfolding(crate::specs::Grammar::clauses_from))]
-fn clauses(alloc: Global, reader: &mut Reader<'_>, count: usize) -> Result<Items<SourceClause>, ReadError>
+fn clauses(
+    alloc: Global,
+    reader: &mut Reader<'_>,
+    count: usize,
+) -> Result<Items<SourceClause>, ReadError>
     ensures { Reads (spec.clauses_from count [] reader.old) result reader.new }
 {
     let mut found = Items::new(alloc);

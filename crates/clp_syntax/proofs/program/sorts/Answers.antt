@@ -1,4 +1,3 @@
-use Rattle.std.proofs.Common.{ap, refl, ◌∙◌, rules, Ok}
 use Rattle.clp_syntax.specs.Grammar.{sorts}
 use Rattle.clp_syntax.proofs.program.sorts.Goals as goal
 

@@ -1,0 +1,10 @@
+use Rattle.std.proofs.Common.{◌≡◌, []}
+use Rattle.std.specs.Prelude.{All}
+use Rattle.clp_model.specs.Trees.{variables_in, IsApplication}
+use Rattle.clp_syntax.proofs.load_tests.with_atoms.Given as goal
+
+abbrev pub invariant-loop-_turn : goal.invariant-loop-_turn
+invariant-loop-_turn l = record {
+  applications : All IsApplication l.atoms;
+  closed : variables_in l.atoms ≡ [];
+}
