@@ -1,4 +1,10 @@
+pub mod SameTree
 pub mod State
 pub mod After
 pub mod Texts
-pub mod SameTree
+pub mod Seen
+pub mod Inside
+pub mod Faults
+pub mod SeenCode
+pub mod Changes
+pub mod Rows
