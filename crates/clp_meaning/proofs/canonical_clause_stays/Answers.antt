@@ -1,0 +1,5 @@
+use Rattle.clp_meaning.proofs.Canonical.{canonical_is_new}
+use Rattle.clp_meaning.proofs.canonical_clause_stays.Goals as goal
+
+pub returns : goal.returns
+returns c = canonical_is_new

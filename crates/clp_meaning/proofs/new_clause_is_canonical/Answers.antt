@@ -1,0 +1,5 @@
+use Rattle.clp_meaning.proofs.Canonical.{new_clause_is_canonical}
+use Rattle.clp_meaning.proofs.new_clause_is_canonical.Goals as goal
+
+pub returns : goal.returns
+returns c = new_clause_is_canonical
