@@ -1,4 +1,4 @@
-ghost use Rattle.std.specs.Prelude.{◌≡◌, ◌+◌, ◌<◌, ◌≤◌, IfOk, IfSome, length, option_map, vec_len, vec_capacity};
+ghost use Rattle.std.specs.Prelude.{◌≡◌, ◌+◌, ◌*◌, ◌<◌, ◌≤◌, IfOk, IfSome, None, true, length, map, option_map, vec_len, vec_capacity};
 ghost use Rattle.std.specs.List.{list_any};
 ghost use Rattle.std.specs.Option.{option_copied};
 ghost use Rattle.clp_model.specs.Predicates.{same_predicate};
@@ -6,15 +6,16 @@ ghost use Rattle.clause_core.specs.Stored.{IsStored};
 ghost use Rattle.map_replay.specs.State.{start_state, total_nodes, entry_at, live_ids_of};
 ghost use Rattle.map_replay.specs.After.{state_limit, changed_at};
 ghost use Rattle.map_replay.specs.Seen.{state_of, entry_in, clauses_in, AllClausesStored};
-ghost use Rattle.map_replay.specs.Changes.{IsChange, changed, IsReady, ready_state};
-ghost use Rattle.map_replay.specs.Rows.{dead_row, rows_killed, AllIds};
+ghost use Rattle.map_replay.specs.Changes.{IsChange, changed, IsReady, ready_state, AllMade, made_entry};
+ghost use Rattle.map_replay.specs.Rows.{dead_row, rows_killed, AllIds, loaded_row, count_of, nodes_of_made, AreMade, is_live_row};
+ghost use Rattle.term_store.specs.Trees.{Keeps};
 
-use crate::change::{Change, Ready};
+use crate::change::{Change, Made, Ready};
 use crate::step::Step;
 use clause_core::{Clause, Pred, clause_size, copy_clause};
 use clp_model::Limit;
 use sqlite_items::Items;
-use std::alloc::Global;
+use std::alloc::{AllocError, Global};
 use std::marker::Model;
 use term_store::{NoMemory, Store};
 
@@ -75,25 +76,9 @@ impl State {
         requires nodes { total_nodes (clauses_in store clauses.items) ≤ 8388608 }
         ensures { IfOk result (λ s. state_of s ≡ start_state (clauses_in store clauses.items) preds.items) }
     {
-        let mut entries = Vec::new(alloc);
-        let mut live = 0;
-        let mut nodes = 0;
-        for clause in clauses {
-            match clause {
-                None => entries.push(None)?,
-                Some(clause) => {
-                    live += 1;
-                    nodes += clause_size(&store, &clause);
-                    entries.push(Some(Entry {
-                        clause,
-                        mark: true,
-                        live: true,
-                        made_at: 0,
-                        parents: Items::new(alloc),
-                    }))?;
-                }
-            }
-        }
+        let live = present_count(clauses.as_slice());
+        let nodes = total_size(&store, clauses.as_slice());
+        let entries = load_all(alloc, clauses)?;
         Ok(State {
             alloc,
             store,
@@ -140,7 +125,7 @@ impl State {
         ensures { result ≡ list_any (λ p. same_predicate p pred.now) (state_of self.now).initials }
     {
         for initial in self.initials.as_slice() {
-            if initial.arity == pred.arity && initial.name.as_str() == pred.name.as_str() {
+            if same_pred(initial, pred) {
                 return true;
             }
         }
@@ -181,13 +166,9 @@ impl State {
         ensures { IfOk result (λ ids. ids.items ≡ live_ids_of (state_of self.now)) }
     {
         let mut ids = Vec::new(self.alloc);
-        let mut id = 0;
-        for entry in &self.entries {
-            id += 1;
-            if let Some(entry) = entry {
-                if entry.live {
-                    ids.push(id)?;
-                }
+        for (place, entry) in self.entries.iter().enumerate() {
+            if is_live(entry) {
+                ids.push(place as u32 + 1)?;
             }
         }
         Ok(ids)
@@ -198,15 +179,11 @@ impl State {
         requires { IsChange (state_of self.now) change.now }
         ensures { result ≡ state_limit (changed (state_of self.now) change.now) }
     {
-        if self.live as usize + change.made.len() > MAX_LIVE + change.dead.len() {
+        if change.made.len() > MAX_LIVE - self.live as usize + change.dead.len() {
             return Some(Limit::Clauses);
         }
-        let mut nodes = self.nodes;
-        for made in change.made.as_slice() {
-            nodes += clause_size(&change.scratch, &made.clause);
-            if nodes > MAX_NODES {
-                return Some(Limit::Nodes);
-            }
+        if self.nodes + made_nodes(&change.scratch, change.made.as_slice()) > MAX_NODES {
+            return Some(Limit::Nodes);
         }
         None
     }
@@ -220,24 +197,18 @@ impl State {
         ensures ready { IfOk result (λ ready. IsReady self.new ready) }
         ensures makes { IfOk result (λ ready. ready_state self.new ready ≡ changed (state_of self.old) change) }
     {
-        let Change { dead, made, defines: _, step, scratch } = change;
+        let made = change.made.as_slice();
         let number = self.history.len() as u32 + 1;
-        let mut entries = Vec::new(self.alloc);
-        let mut nodes = 0;
-        for one in made.as_slice() {
-            let clause = copy_clause(self.alloc, &mut self.store, &scratch, &one.clause)?;
-            nodes += clause_size(&self.store, &clause);
-            entries.push(Some(Entry {
-                clause,
-                mark: one.mark,
-                live: true,
-                made_at: number,
-                parents: Items::from_slice(self.alloc, one.parents.as_slice())?,
-            }))?;
-        }
+        let nodes = made_nodes(&change.scratch, made);
+        let entries = copy_made(self.alloc, &mut self.store, &change.scratch, made, number)?;
         self.entries.reserve(entries.len())?;
         self.history.reserve(1)?;
-        Ok(Ready { dead, entries, nodes, step })
+        Ok(Ready {
+            dead: change.dead,
+            entries,
+            nodes,
+            step: change.step,
+        })
     }
 
     /// A reserved change takes effect.
@@ -251,6 +222,133 @@ impl State {
         self.nodes += nodes;
         self.entries.append(&mut entries).unwrap();
         self.history.push(step).unwrap();
+    }
+}
+
+fn same_pred(a: &Pred, b: &Pred) -> bool
+    ensures { result ≡ same_predicate a.now b.now }
+{
+    a.name.as_str() == b.name.as_str() && a.arity == b.arity
+}
+
+/// The entry of a loaded clause.
+fn loaded(alloc: Global, clause: Option<Clause>) -> Option<Entry>
+    ensures { result ≡ loaded_row clause }
+{
+    Some(Entry {
+        clause: clause?,
+        mark: true,
+        live: true,
+        made_at: 0,
+        parents: Items::new(alloc),
+    })
+}
+
+fn load_all(
+    alloc: Global,
+    clauses: Vec<Option<Clause>>,
+) -> Result<Vec<Option<Entry>>, AllocError>
+    ensures { IfOk result (λ entries. entries.items ≡ map loaded_row clauses.items) }
+{
+    clauses
+        .into_iter()
+        .map(|clause| loaded(alloc, clause))
+        .collect(alloc)
+}
+
+/// How many places hold a clause.
+fn present_count(clauses: &[Option<Clause>]) -> u32
+    requires { length clauses.now ≤ 4096 }
+    ensures value { result ≡ count_of clauses.now }
+    ensures few { result ≤ 4096 }
+{
+    let mut count = 0;
+    for clause in clauses {
+        if clause.is_some() {
+            count += 1;
+        }
+    }
+    count
+}
+
+/// The sizes of the clauses together.
+fn total_size(store: &Store, clauses: &[Option<Clause>]) -> u32
+    requires stored { AllClausesStored store.now clauses.now }
+    requires few { length clauses.now ≤ 4096 }
+    ensures { result ≡ total_nodes (clauses_in store.now clauses.now) }
+{
+    let mut total = 0;
+    for clause in clauses {
+        if let Some(clause) = clause {
+            total += clause_size(store, clause);
+        }
+    }
+    total
+}
+
+/// The sizes of the clauses that a change makes, together.
+fn made_nodes(store: &Store, made: &[Made]) -> u32
+    requires stored { AllMade store.now made.now }
+    requires few { length made.now ≤ 4096 }
+    ensures value { result ≡ nodes_of_made store.now made.now }
+    ensures few { result ≤ 4096 * 4096 }
+{
+    let mut total = 0;
+    for one in made {
+        total += clause_size(store, &one.clause);
+    }
+    total
+}
+
+/// The entry of a clause that a step makes, in the store of the state.
+fn copy_one(
+    alloc: Global,
+    store: &mut Store,
+    scratch: &Store,
+    one: &Made,
+    number: u32,
+) -> Result<Entry, NoMemory>
+    requires { IsStored scratch.now one.now.clause }
+    ensures keeps { Keeps store.old store.new }
+    ensures is { IfOk result (λ e. entry_in store.new e ≡ made_entry number scratch.now one.now) }
+    ensures stored { IfOk result (λ e. IsStored store.new e.clause) }
+    ensures live { IfOk result (λ e. e.live ≡ true) }
+{
+    Ok(Entry {
+        clause: copy_clause(alloc, store, scratch, &one.clause)?,
+        mark: one.mark,
+        live: true,
+        made_at: number,
+        parents: Items::from_slice(alloc, one.parents.as_slice())?,
+    })
+}
+
+/// The entries of all clauses that a step makes.
+fn copy_made(
+    alloc: Global,
+    store: &mut Store,
+    scratch: &Store,
+    made: &[Made],
+    number: u32,
+) -> Result<Vec<Option<Entry>>, NoMemory>
+    requires { AllMade scratch.now made.now }
+    ensures keeps { Keeps store.old store.new }
+    ensures are { IfOk result (λ entries. AreMade store.new number scratch.now made.now entries.items) }
+{
+    let mut entries = Vec::new(alloc);
+    for one in made {
+        let entry = copy_one(alloc, store, scratch, one, number)?;
+        entries.push(Some(entry))?;
+    }
+    Ok(entries)
+}
+
+fn is_live(entry: &Option<Entry>) -> bool
+    ensures { result ≡ is_live_row entry.now }
+{
+    match entry {
+        Some(entry) => entry.live,
+        None => false,
     }
 }
 
