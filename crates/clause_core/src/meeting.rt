@@ -1,0 +1,66 @@
+//! The variables of terms, by first occurrence.
+
+ghost use Rattle.std.specs.Prelude.{◌≡◌, ◌<◌, ◌∷◌, nat_eq, length, IfOk, OnOk};
+ghost use Rattle.clp_model.specs.Predicates.{with_element, distinct_after};
+ghost use Rattle.clp_model.specs.Trees.{variables, variables_in};
+ghost use Rattle.clp_model.specs.Canonical.{variables_met};
+ghost use Rattle.term_store.specs.Trees.{AreIn};
+ghost use Rattle.clause_core.specs.Stored.{atom_at, atoms_at};
+
+use crate::clause::RawClause;
+use sqlite_items::Items;
+use std::alloc::Global;
+use term_store::{Look, NoMemory, Store, Term};
+
+/// Puts a number last, unless it is there.
+fn meet_number(number: u32, met: &mut Items<u32>) -> Result<(), NoMemory>
+    ensures { OnOk result (met.new ≡ with_element nat_eq met.old number) }
+{
+    if met.as_slice().contains(&number) {
+        return Ok(());
+    }
+    met.push(number)?;
+    Ok(())
+}
+
+/// Adds the numbers of a term's variables that are not there.
+#[cycle(meet)]
+#[tactic(auto, using(crate::proofs::Numbers::numbers_app, crate::proofs::Numbers::numbers_var, clp_model::proofs::Trees::size_app))]
+fn meet(store: &Store, t: Term, met: &mut Items<u32>) -> Result<(), NoMemory>
+    requires { t < length store.now }
+    ensures { OnOk result (met.new ≡ distinct_after nat_eq met.old (variables (atom_at store.now t))) }
+{
+    match store.look(t) {
+        Look::Var(number, _) => meet_number(number, met),
+        Look::App(_, args) => meet_all(store, args, met),
+    }
+}
+
+/// The same of several terms, in order.
+#[cycle(meet)]
+#[tactic(auto, using(crate::proofs::Numbers::met_more, clp_model::proofs::Trees::size_positive))]
+fn meet_all(store: &Store, terms: &[Term], met: &mut Items<u32>) -> Result<(), NoMemory>
+    requires { AreIn store.now terms.now }
+    ensures { OnOk result (met.new ≡ distinct_after nat_eq met.old (variables_in (atoms_at store.now terms.now))) }
+{
+    for term in terms {
+        meet(store, *term, met)?;
+    }
+    Ok(())
+}
+
+/// The variables of a clause, each once, by first occurrence in the head and then the body atoms.
+#[tactic(auto, using(crate::proofs::Numbers::met_two))]
+pub(crate) fn variables_met(
+    alloc: Global,
+    store: &Store,
+    raw: &RawClause,
+) -> Result<Items<u32>, NoMemory>
+    requires { AreIn store.now (raw.now.head ∷ raw.now.atoms) }
+    ensures { IfOk result (λ met. met ≡ variables_met (atoms_at store.now (raw.now.head ∷ raw.now.atoms))) }
+{
+    let mut met = Items::new(alloc);
+    meet(store, raw.head, &mut met)?;
+    meet_all(store, raw.atoms.as_slice(), &mut met)?;
+    Ok(met)
+}
