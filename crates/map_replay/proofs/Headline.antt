@@ -12,7 +12,7 @@ use Rattle.clp_model.specs.Proof.{Provable}
 use Rattle.clp_model.specs.Canonical.{canonical_form, new_clause, clause_size, IsCanonical}
 use Rattle.clp_model.specs.Predicates.{initial_predicates, ground_predicate, predicate_of}
 use Rattle.clp_syntax.specs.Grammar.{program}
-use Rattle.clp_syntax.specs.Load.{Program, load}
+use Rattle.clp_syntax.specs.Load.{Program, sizes_of, load}
 use Rattle.clp_syntax.specs.Print.{program_text}
 use Rattle.clp_syntax.specs.Readable.{IsReadable, AreReadable, IsPrintable}
 use Rattle.clp_syntax.proofs.Readable.{program_readable}
@@ -21,7 +21,7 @@ use Rattle.clp_meaning.specs.Laws.{HasNoConstraint}
 use Rattle.clp_meaning.proofs.Canonical.{new_clause_is_canonical}
 use Rattle.map_replay.specs.declared.replay_fault.ReplayFault.{ReplayFault}
 use Rattle.map_replay.specs.declared.replay_fault.ReplayFault.TheVariants as fault
-use Rattle.map_replay.specs.declared.replay_fault.LoadFault.TheVariants.{TooLarge}
+use Rattle.clp_syntax.specs.declared.loading.LoadFault.TheVariants.{TooLarge}
 use Rattle.map_replay.specs.declared.step.Step.{Step}
 use Rattle.map_replay.specs.declared.step.Step.TheVariants.{Merge}
 use Rattle.map_replay.specs.declared.refusal.Refusal.{Refusal}
@@ -31,10 +31,11 @@ use Rattle.map_replay.specs.Script.{script}
 use Rattle.map_replay.specs.Replay.{started, loaded, opened, unless_refused, carried_out, scripted, then_scripted, replayed, output}
 use Rattle.map_replay.specs.Headline.{definition_of, definitions_of, KeepsProvability}
 use Rattle.map_replay.proofs.Plain.{IsPlainClause, plain_canonical}
-use Rattle.map_replay.proofs.Sound.{sizes_of, IsSound, run_sound}
+use Rattle.map_replay.proofs.Sound.{IsSound, run_sound}
 use Rattle.map_replay.proofs.Keeping.{run_keeps_provability}
-use Rattle.map_replay.proofs.Loading.{IsLoaded, Made, all_made, length_made, start_live, start_nodes, made_proves_the_same, loaded_again}
-use Rattle.map_replay.proofs.Loading as loading
+use Rattle.clp_syntax.proofs.LoadedPrograms.{IsLoaded, all_made, length_made, loaded_again}
+use Rattle.clp_syntax.proofs.LoadedPrograms as loading
+use Rattle.map_replay.proofs.Starting.{start_live, start_nodes, made_proves_the_same}
 
 -- ---- what replay went through
 

@@ -1,162 +1,61 @@
--- What loading keeps: instances, provability, and what the program needs to be read again.
-use Rattle.std.proofs.Common.{◌≡◌, ℕ, zero, suc, ◌+◌, ◌≤◌, ◌<◌, List, [], ◌∷◌, ◌++◌, length, refl, sym, ◌∙◌, ap, subst, map, arith, ◌↔◌, Bool, true, false, append_assoc}
-use Rattle.std.specs.Prelude.{Option, Some, None, Result, Ok, Err, All, Contains, nat_lt, if◌then◌else◌}
-use Rattle.std.proofs.lemmas.Bool.{ltb-false, le-ltb}
-use Rattle.std.proofs.lemmas.List.Elements.{All-nil, All-cons, All-head, All-tail, All-contains}
-use Rattle.clp_model.specs.declared.limit.Limit.{Limit}
-use Rattle.clp_model.specs.declared.limit.Limit.TheVariants.{Nodes}
+-- The state of a loaded program.
+use Rattle.std.proofs.Common.{◌≡◌, ℕ, suc, ◌≤◌, List, [], ◌∷◌, length, refl, ap, ◌∙◌, sym, subst, arith, map}
+use Rattle.std.specs.Prelude.{Option, Some, None, option_map}
 use Rattle.clp_model.specs.declared.predicate.Pred.{Pred}
-use Rattle.clp_model.specs.Values.{GroundAtom}
-use Rattle.clp_model.specs.Clauses.{Clause}
-use Rattle.clp_model.specs.Proof.{Provable}
-use Rattle.clp_model.specs.Canonical.{canonical_form, new_clause, clause_size, IsCanonical}
-use Rattle.clp_model.specs.Predicates.{initial_predicates}
-use Rattle.clp_syntax.specs.Load.{Program, counted, loaded_after, with_predicates, load}
-use Rattle.clp_meaning.specs.Laws.{HasNoConstraint, HasInstancesOf, HasClausesOf}
-use Rattle.clp_meaning.proofs.Membership.{Among, first, next, to_among, from_among}
-use Rattle.clp_meaning.proofs.Canonical.{new_clause_is_canonical, canonical_is_new}
-use Rattle.clp_meaning.proofs.Renaming.{canonical_form_keeps_instances}
-use Rattle.clp_meaning.proofs.Carrying.{same_instances_keep_provability}
-use Rattle.map_replay.specs.State.{Entry, State, live_clauses, loaded_entry, total_nodes, start_state}
-use Rattle.map_replay.proofs.Sound.{sizes_of}
+use Rattle.clause_core.specs.declared.clause.Clause.{Clause as Kept}
+use Rattle.clause_core.specs.Stored.{clause_in}
+use Rattle.map_replay.specs.declared.step.Step.{Step}
+use Rattle.map_replay.specs.declared.state.Entry.{Entry as Row}
+use Rattle.map_replay.specs.State.{State, is_live, clauses_where, live_count, loaded_entry, start_state, total_nodes}
+use Rattle.map_replay.specs.Seen.{Trees, Seen, IsSound, AllStored, AllClausesStored, state_of, entries_in, clauses_in}
+use Rattle.map_replay.specs.Rows.{loaded_row, count_of}
 
--- each of the clauses was made of the source clause at its place
-pub data Made : List Clause → List Clause → Type 0 where
-  nothing : Made [] []
-  one_more : {c d : Clause} {cs ds : List Clause} → new_clause c ≡ Ok d → Made cs ds → Made (c ∷ cs) (d ∷ ds)
+in_loaded : (store : Trees) (cs : List (Option Kept)) → entries_in store (map loaded_row cs) ≡ map (option_map loaded_entry) (clauses_in store cs)
+in_loaded store [] = refl
+in_loaded store (None ∷ cs) = ap (λ es. None ∷ es) (in_loaded store cs)
+in_loaded store (Some c ∷ cs) = ap (λ es. Some (loaded_entry (clause_in store c)) ∷ es) (in_loaded store cs)
 
-limit_err : (l : Limit) (xs : List (Option Clause)) → ◌≡◌ {A = Result (List (Option Clause)) Limit} (Err l) (Ok xs) → ⊥
-limit_err l xs e = cc
+stored_loaded : (store : Trees) (cs : List (Option Kept)) → AllClausesStored store cs → AllStored store (map loaded_row cs)
+stored_loaded store [] s = tt
+stored_loaded store (None ∷ cs) s = stored_loaded store cs s
+stored_loaded store (Some c ∷ cs) s = (s.0, stored_loaded store cs s.1)
 
-limit_ok : (xs ys : List (Option Clause)) → ◌≡◌ {A = Result (List (Option Clause)) Limit} (Ok xs) (Ok ys) → xs ≡ ys
-limit_ok xs ys e = cc
+live_loaded : (store : Trees) (cs : List (Option Kept)) → length (clauses_where is_live (entries_in store (map loaded_row cs))) ≡ count_of cs
+live_loaded store [] = refl
+live_loaded store (None ∷ cs) = live_loaded store cs
+live_loaded store (Some c ∷ cs) = ap suc (live_loaded store cs)
 
--- what loading the rest has made: clauses of the source, and no more than the limit
-pub record Rest (found : List (Option Clause)) (nodes : ℕ) (source : List Clause) (all : List (Option Clause)) : Type 0 where
-  pub clauses : List Clause
-  pub made : Made source clauses
-  pub is : all ≡ found ++ map Some clauses
-  pub small : nodes + sizes_of clauses ≤ 8388608
+length_loaded : (cs : List (Option Kept)) → length (map loaded_row cs) ≡ length cs
+length_loaded [] = refl
+length_loaded (c ∷ cs) = ap suc (length_loaded cs)
 
-add_nil : {A : Type 0} (xs : List A) → xs ++ [] ≡ xs
-add_nil [] = refl
-add_nil (x ∷ xs) = ap (λ ys. x ∷ ys) (add_nil xs)
+-- the parts of a state that has just begun
+pub record IsBegun (store : Trees) (cs : List (Option Kept)) (preds : List Pred) (seen : Seen) : Type 0 where
+  pub store_is : seen.store ≡ store
+  pub entries : seen.entries ≡ map loaded_row cs
+  pub initials : seen.initials ≡ preds
+  pub history : seen.history ≡ []
+  pub live : seen.live ≡ count_of cs
+  pub nodes : seen.nodes ≡ total_nodes (clauses_in store cs)
 
-step : (found : List (Option Clause)) (nodes : ℕ) (c : Clause) (cs : List Clause) (all : List (Option Clause))
-    → ((d : Clause) → nodes + clause_size d ≤ 8388608 → loaded_after (found ++ Some d ∷ []) (nodes + clause_size d) cs ≡ Ok all → Rest (found ++ Some d ∷ []) (nodes + clause_size d) cs all)
-    → (r : Result Clause Limit) → new_clause c ≡ r → counted nodes (λ d more. loaded_after (found ++ Some d ∷ []) more cs) r ≡ Ok all → Rest found nodes (c ∷ cs) all
-step found nodes c cs all again (Err l) er h = absurd (limit_err l all h)
-step found nodes c cs all again (Ok d) er h = by (nat_lt 8388608 (nodes + clause_size d)) refl h
-  where
-    by : (b : Bool) → nat_lt 8388608 (nodes + clause_size d) ≡ b
-        → (if b then Err Nodes else loaded_after (found ++ Some d ∷ []) (nodes + clause_size d) cs) ≡ Ok all → Rest found nodes (c ∷ cs) all
-    by true eb g = absurd (limit_err Nodes all g)
-    by false eb g =
-        let rest = again d (ltb-false _ _ eb) g in
-        record {
-          clauses = d ∷ rest.clauses;
-          made = one_more er rest.made;
-          is = rest.is ∙ append_assoc found (Some d ∷ []) (map Some rest.clauses);
-          small = let s = rest.small in omega arith;
-        }
+module _ (store : Trees) (cs : List (Option Kept)) (preds : List Pred) (seen : Seen) (is : IsBegun store cs preds seen) where
+  begun_entries : entries_in seen.store seen.entries ≡ map (option_map loaded_entry) (clauses_in store cs)
+  begun_entries = ap (λ st. entries_in st seen.entries) is.store_is ∙ ap (entries_in store) is.entries ∙ in_loaded store cs
 
-rest_of : (found : List (Option Clause)) (nodes : ℕ) (source : List Clause) (all : List (Option Clause)) → nodes ≤ 8388608 → loaded_after found nodes source ≡ Ok all → Rest found nodes source all
-rest_of found nodes [] all small h =
-    record { clauses = []; made = nothing; is = sym (limit_ok found all h) ∙ sym (add_nil found); small = omega (arith, small) }
-rest_of found nodes (c ∷ cs) all small h =
-    step found nodes c cs all (λ d s g. rest_of (found ++ Some d ∷ []) (nodes + clause_size d) cs all s g) (new_clause c) refl h
+  pub begun_state : state_of seen ≡ start_state (clauses_in store cs) preds
+  begun_state = let a = begun_entries in let b = is.initials in let d = is.history in let e = is.nodes in cc
 
--- what a program that is loaded consists of
-pub record IsLoaded (source : List Clause) (p : Program) : Type 0 where
-  pub clauses : List Clause
-  pub made : Made source clauses
-  pub is : p.clauses ≡ map Some clauses
-  pub predicates : p.predicates ≡ initial_predicates source
-  pub small : sizes_of clauses ≤ 8388608
-
-program_err : (l : Limit) (p : Program) → ◌≡◌ {A = Result Program Limit} (Err l) (Ok p) → ⊥
-program_err l p e = cc
-
-program_ok : (p q : Program) → ◌≡◌ {A = Result Program Limit} (Ok p) (Ok q) → p ≡ q
-program_ok p q e = cc
-
-pub loaded : (source : List Clause) (p : Program) → load source ≡ Ok p → IsLoaded source p
-unfolding load
-loaded source p h = by (loaded_after [] 0 source) refl h
-  where
-    by : (r : Result (List (Option Clause)) Limit) → loaded_after [] 0 source ≡ r → with_predicates (initial_predicates source) r ≡ Ok p → IsLoaded source p
-    by (Err l) er g = absurd (program_err l p g)
-    by (Ok all) er g =
-        let rest = rest_of [] 0 source all (omega arith) er in
-        let e = program_ok (record { clauses = all; predicates = initial_predicates source }) p g in
-        let s = rest.small in
-        record {
-          clauses = rest.clauses;
-          made = rest.made;
-          is = ap (λ (q : Program). q.clauses) (sym e) ∙ rest.is;
-          predicates = ap (λ (q : Program). q.predicates) (sym e);
-          small = omega arith;
-        }
-
--- ---- the start state of a loaded program
-live_loaded : (cs : List Clause) (ps : List Pred) → live_clauses (start_state (map Some cs) ps) ≡ cs
-live_loaded [] ps = refl
-live_loaded (c ∷ cs) ps = ap (λ ds. c ∷ ds) (live_loaded cs ps)
-
-nodes_loaded : (cs : List Clause) → total_nodes (map Some cs) ≡ sizes_of cs
-nodes_loaded [] = refl
-nodes_loaded (c ∷ cs) = ap (λ n. clause_size c + n) (nodes_loaded cs)
-
-pub start_live : (source : List Clause) (p : Program) (l : IsLoaded source p) → live_clauses (start_state p.clauses p.predicates) ≡ l.clauses
-start_live source p l = ap (λ cs. live_clauses (start_state cs p.predicates)) l.is ∙ live_loaded l.clauses p.predicates
-
-pub start_nodes : (source : List Clause) (p : Program) (l : IsLoaded source p) → (start_state p.clauses p.predicates).nodes ≡ sizes_of l.clauses
-start_nodes source p l = ap total_nodes l.is ∙ nodes_loaded l.clauses
-
--- ---- what is made of a list of clauses
-pub all_made : (P Q : Clause → Type 0) → ((c d : Clause) → new_clause c ≡ Ok d → P c → Q d) → {source clauses : List Clause} → Made source clauses → All P source → All Q clauses
-all_made P Q kept nothing h = All-nil Q
-all_made P Q kept (one_more {c} {d} {cs} {ds} e m) h =
-    All-cons Q d ds (kept c d e (All-head P c cs h)) (all_made P Q kept m (All-tail P c cs h))
-
-pub length_made : {source clauses : List Clause} → Made source clauses → length clauses ≡ length source
-length_made nothing = refl
-length_made (one_more e m) = ap suc (length_made m)
-
--- the clause that was made of a source clause, and the source of a clause
-there : {source clauses : List Clause} → Made source clauses → {c : Clause} → Among c source → (d : Clause) × Among d clauses × (new_clause c ≡ Ok d)
-there nothing m = elim m [ ]
-there (one_more {c} {d} {cs} {ds} e made) first = (d, first, e)
-there (one_more {c} {d} {cs} {ds} e made) (next n) = let x = there made n in (x.0, next x.1, x.2)
-
-back : {source clauses : List Clause} → Made source clauses → {d : Clause} → Among d clauses → (c : Clause) × Among c source × (new_clause c ≡ Ok d)
-back nothing m = elim m [ ]
-back (one_more {c} {d} {cs} {ds} e made) first = (c, first, e)
-back (one_more {c} {d} {cs} {ds} e made) (next n) = let x = back made n in (x.0, next x.1, x.2)
-
--- a program and the clauses that were made of it prove the same
-pub made_proves_the_same : (source clauses : List Clause) → Made source clauses → All HasNoConstraint source → (a : GroundAtom) → Provable clauses a ↔ Provable source a
-made_proves_the_same source clauses made none a =
-    same_instances_keep_provability source clauses
-    (λ c inside.
-      let x = there made (to_among source c inside) in
-      let e = (new_clause_is_canonical c x.0 x.2).0 in
-      (x.0, from_among x.1, subst (λ d. HasInstancesOf d c) (sym e) (canonical_form_keeps_instances c (All-contains HasNoConstraint source c none inside)).0))
-    (λ d inside.
-      let x = back made (to_among clauses d inside) in
-      let e = (new_clause_is_canonical x.0 d x.2).0 in
-      (x.0, from_among x.1, subst (λ y. HasInstancesOf x.0 y) (sym e) (canonical_form_keeps_instances x.0 (All-contains HasNoConstraint source x.0 none (from_among x.1))).1))
-    a
-
--- ---- a program of canonical clauses within the limits is loaded as it is
-again : (found : List (Option Clause)) (nodes : ℕ) (cs : List Clause) → All IsCanonical cs → nodes + sizes_of cs ≤ 8388608 → loaded_after found nodes cs ≡ Ok (found ++ map Some cs)
-again found nodes [] h small = ap Ok (sym (add_nil found))
-again found nodes (c ∷ cs) h small =
-    ap (counted nodes (λ d more. loaded_after (found ++ Some d ∷ []) more cs)) (canonical_is_new c (All-head IsCanonical c cs h))
-    ∙ (ap (λ b. if b then Err Nodes else loaded_after (found ++ Some c ∷ []) (nodes + clause_size c) cs) (le-ltb 8388608 (nodes + clause_size c) (omega (arith, small)))
-    ∙ (again (found ++ Some c ∷ []) (nodes + clause_size c) cs (All-tail IsCanonical c cs h) (omega (arith, small))
-    ∙ ap Ok (append_assoc found (Some c ∷ []) (map Some cs))))
-
-pub loaded_again : (cs : List Clause) → All IsCanonical cs → sizes_of cs ≤ 8388608 → load cs ≡ Ok (record { clauses = map Some cs; predicates = initial_predicates cs })
-unfolding load
-loaded_again cs h small = ap (with_predicates (initial_predicates cs)) (again [] 0 cs h (omega (arith, small)))
+  pub begun_sound : AllClausesStored store cs → length cs ≤ 4096 → count_of cs ≤ 4096 → total_nodes (clauses_in store cs) ≤ 8388608 → IsSound seen
+  begun_sound stored few count nodes =
+      let P : List (Option Row) → Type 0 = AllStored seen.store in
+      let Q : Trees → Type 0 = λ st. AllStored st (map loaded_row cs) in
+      let lives = ap (λ es. length (clauses_where is_live es)) (ap (λ st. entries_in st seen.entries) is.store_is ∙ ap (entries_in store) is.entries) ∙ live_loaded store cs in
+      let long = ap (λ (xs : List (Option Row)). length xs) is.entries ∙ length_loaded cs in
+      record {
+        stored = subst P (sym is.entries) (subst Q (sym is.store_is) (stored_loaded store cs stored));
+        live_is = is.live ∙ sym lives;
+        few_live = omega (arith, is.live);
+        few_nodes = omega (arith, is.nodes);
+        few_steps = omega (arith, ap (λ (xs : List Step). length xs) is.history);
+        few_ids = omega arith;
+      }

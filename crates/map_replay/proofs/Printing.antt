@@ -4,15 +4,11 @@ use Rattle.std.specs.Prelude.{Option, Some, None, slice_index_or, if◌then◌el
 use Rattle.clp_model.specs.Clauses.{Clause}
 use Rattle.clp_syntax.specs.Print.{clause_text, program_text}
 use Rattle.map_replay.specs.State.{Entry, clauses_where, is_live}
+use Rattle.map_replay.specs.Replay.{entry_text}
 
 -- the text of the entries from this place on
 abbrev pub text_from : List (Option Entry) → ℕ → List ℕ
 text_from entries place = program_text (clauses_where is_live (drop place entries))
-
--- the text of one entry
-abbrev pub entry_text : Option Entry → List ℕ
-entry_text None = []
-entry_text (Some e) = if e.live then clause_text e.clause else []
 
 first_text : (b : Bool) (c : Clause) (cs : List Clause) → program_text (if b then c ∷ cs else cs) ≡ (if b then clause_text c else []) ++ program_text cs
 unfolding program_text

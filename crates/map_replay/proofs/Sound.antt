@@ -3,6 +3,7 @@ use Rattle.std.proofs.Common.{◌≡◌, ℕ, zero, suc, ◌+◌, ◌-◌, ◌<�
 use Rattle.std.specs.Prelude.{Option, Some, None, All, if◌then◌else◌, Ok}
 use Rattle.clp_model.specs.Clauses.{Clause}
 use Rattle.clp_model.specs.Canonical.{clause_size, canonical_form, IsCanonical}
+use Rattle.clp_syntax.specs.Load.{sizes_of}
 use Rattle.clp_meaning.specs.Laws.{without_atom}
 use Rattle.clp_meaning.proofs.Canonical.{new_clause_is_canonical}
 use Rattle.map_replay.specs.State.{Entry, State, live_clauses, live_count}
@@ -13,11 +14,6 @@ use Rattle.map_replay.proofs.Merged.{Merges}
 use Rattle.map_replay.proofs.Live.{live}
 use Rattle.map_replay.proofs.Keeping.{live_after, all_after, of_clause, merge_canonical, IsKept, run_from_keeps}
 use Rattle.map_replay.proofs.Plain.{IsPlainClause, plain_canonical, plain_without}
-
--- the sizes of these clauses together
-abbrev pub sizes_of : List Clause → ℕ
-sizes_of [] = 0
-sizes_of (c ∷ cs) = clause_size c + sizes_of cs
 
 pub sizes_append : (xs ys : List Clause) → sizes_of (xs ++ ys) ≡ sizes_of xs + sizes_of ys
 sizes_append [] ys = omega arith

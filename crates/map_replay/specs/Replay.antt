@@ -1,18 +1,18 @@
 -- What a script makes of a program, from the bytes of the two.
-use Rattle.std.specs.Prelude.{ℕ, List, [], map, Result, Ok, Err}
+use Rattle.std.specs.Prelude.{◌≡◌, ◌⊎◌, ℕ, ◌-◌, ◌≤◌, List, [], map, take, length, Option, Some, None, Result, Ok, Err, if◌then◌else◌}
 use Rattle.clp_tokens.specs.declared.fault.Fault.{Fault}
 use Rattle.clp_model.specs.declared.limit.Limit.{Limit}
 use Rattle.clp_model.specs.declared.clause.SourceClause.{SourceClause}
 use Rattle.clp_model.specs.Clauses.{Clause, of_source}
 use Rattle.clp_syntax.specs.Grammar.{program}
 use Rattle.clp_syntax.specs.Load.{Program, load}
-use Rattle.clp_syntax.specs.Print.{program_text}
-use Rattle.map_replay.specs.declared.replay_fault.LoadFault.TheVariants.{TooLarge}
+use Rattle.clp_syntax.specs.Print.{clause_text, program_text}
+use Rattle.clp_syntax.specs.declared.loading.LoadFault.TheVariants.{TooLarge}
 use Rattle.map_replay.specs.declared.replay_fault.ReplayFault.{ReplayFault}
 use Rattle.map_replay.specs.declared.replay_fault.ReplayFault.TheVariants as fault
 use Rattle.map_replay.specs.declared.step.Step.{Step}
 use Rattle.map_replay.specs.declared.refusal.Refusal.{Refusal}
-use Rattle.map_replay.specs.State.{State, start_state, live_clauses}
+use Rattle.map_replay.specs.State.{Entry, State, start_state, live_clauses}
 use Rattle.map_replay.specs.After.{run}
 use Rattle.map_replay.specs.Script.{script}
 
@@ -51,3 +51,26 @@ replayed program_text script_text = then_scripted script_text (opened program_te
 -- the right output: the printed text of the live clauses by rising id
 abbrev pub output : State → List ℕ
 output s = program_text (live_clauses s)
+
+-- the text of an entry: its clause's, where it is live
+abbrev pub entry_text : Option Entry → List ℕ
+entry_text None = []
+entry_text (Some e) = if e.live then clause_text e.clause else []
+
+-- why the steps stopped, and where the state is then: after a refusal it is that after all steps before
+-- the refused one, and after want of memory that after some of the first steps
+abbrev pub StopsAt : State → List Step → State → ReplayFault → Type 0
+StopsAt s steps t (fault.Refused number refusal) =
+    (run s steps ≡ Err (number, refusal)) × (run s (take (number - 1) steps) ≡ Ok t)
+StopsAt s steps t fault.NoMemory = (count : ℕ) × (count ≤ length steps) × (run s (take count steps) ≡ Ok t)
+StopsAt s steps t fault.Program = ⊥
+StopsAt s steps t (fault.Load f) = ⊥
+StopsAt s steps t fault.Script = ⊥
+
+-- the same of the steps of a script's text; a text that is none leaves the state as it was
+abbrev pub StopsWithin : State → List ℕ → State → ReplayFault → Type 0
+StopsWithin s text t (fault.Refused number refusal) = (steps : List Step) × (script text ≡ Ok steps) × StopsAt s steps t (fault.Refused number refusal)
+StopsWithin s text t fault.NoMemory = (t ≡ s) ⊎ ((steps : List Step) × (script text ≡ Ok steps) × StopsAt s steps t fault.NoMemory)
+StopsWithin s text t fault.Script = t ≡ s
+StopsWithin s text t fault.Program = ⊥
+StopsWithin s text t (fault.Load f) = ⊥

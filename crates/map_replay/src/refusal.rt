@@ -1,9 +1,12 @@
 ghost use Rattle.std.specs.Prelude.{◌≡◌, ◌++◌, OnOk, OnErr, string_bytes, codes, decimal};
+ghost use Rattle.map_replay.specs.declared.refusal.Refusal.TheVariants.{NoMemory};
+ghost use Rattle.map_replay.specs.Faults.{refusal_of};
 ghost use Rattle.map_replay.specs.Texts.{limit_word, refusal_number, refusal_words, refusal_fields, refusal_line};
 
+use clause_core::ClauseFault;
 use clp_model::Limit;
 use itoa::Buffer;
-use std::alloc::Global;
+use std::alloc::{AllocError, Global};
 use term_store::NoMemory;
 
 /// Why a step was refused: its first broken condition.
@@ -107,4 +110,31 @@ pub fn refusal_text(alloc: Global, refusal: &Refusal, into: &mut String) -> Resu
     push_fields(refusal, &mut text)?;
     into.push_str(text.as_str())?;
     Ok(())
+}
+
+impl From<AllocError> for Refusal {
+    ghost from_gives = { λ _ e. e ≡ NoMemory };
+
+    fn from(_e: AllocError) -> Refusal {
+        Refusal::NoMemory
+    }
+}
+
+impl From<NoMemory> for Refusal {
+    ghost from_gives = { λ _ e. e ≡ NoMemory };
+
+    fn from(_e: NoMemory) -> Refusal {
+        Refusal::NoMemory
+    }
+}
+
+impl From<ClauseFault> for Refusal {
+    ghost from_gives = { λ fault e. e ≡ refusal_of fault };
+
+    fn from(fault: ClauseFault) -> Refusal {
+        match fault {
+            ClauseFault::TooLarge(limit) => Refusal::TooLarge(limit),
+            ClauseFault::NoMemory => Refusal::NoMemory,
+        }
+    }
 }
