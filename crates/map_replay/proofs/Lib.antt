@@ -3,3 +3,5 @@ pub mod Killing
 pub mod Counting
 pub mod Places
 pub mod Committing
+pub mod Reserving
+pub mod Loading

@@ -109,10 +109,13 @@ first_broken atoms first second =
     else (if not (same_at atoms (first - 1) (second - 1)) then Some (NotEqualAtoms first second)
     else None)))
 
--- the clause without the atom at this position, and with its mark
+-- the clause without the atom at this place, counted from 0
+abbrev pub without_place : Clause → ℕ → Clause
+without_place c place = record c { body = remove c.body place }
+
+-- the new clause of a merge: the second atom is gone, and the mark stays
 abbrev pub merged : Entry → ℕ → ℕ → Draft
-merged e id position =
-    record { clause = record e.clause { body = remove e.clause.body (position - 1) }; mark = e.mark; parents = id ∷ [] }
+merged e id second = record { clause = without_place e.clause (second - 1); mark = e.mark; parents = id ∷ [] }
 
 abbrev pub unless_broken : Option Refusal → Result State Refusal → Result State Refusal
 unless_broken None next = next
@@ -124,10 +127,13 @@ merge_of s id first second (Some e) =
     unless_broken (first_broken e.clause.body first second)
     (rewritten s (record { dead = id ∷ []; made = merged e id second ∷ []; step = Merge id first second }))
 
+abbrev pub merge_after : State → ℕ → ℕ → ℕ → Result State Refusal
+merge_after s id first second = merge_of s id first second (live_at s id)
+
 -- ---- One step, and all of a script
 
 abbrev pub by_rule : State → Step → Result State Refusal
-by_rule s (Merge id first second) = merge_of s id first second (live_at s id)
+by_rule s (Merge id first second) = merge_after s id first second
 
 -- the state after a step, or its first broken condition
 abbrev pub after : State → Step → Result State Refusal

@@ -1,6 +1,7 @@
 -- What a change makes of a state, and when it may take effect.
 use Rattle.std.specs.Prelude.{ℕ, ◌+◌, ◌-◌, ◌<◌, ◌≤◌, ◌≡◌, true, List, [], ◌∷◌, map, length, Option, Some, None, IsSome}
 use Rattle.clause_core.specs.Stored.{clause_in, IsStored}
+use Rattle.map_replay.specs.declared.step.Step.{Step}
 use Rattle.map_replay.specs.declared.state.Entry.{Entry as Row}
 use Rattle.map_replay.specs.declared.change.Made.{Made}
 use Rattle.map_replay.specs.declared.change.Change.{Change}
@@ -19,6 +20,10 @@ made_entries number store made = map (made_entry number store) made
 -- the state that a change makes
 abbrev pub changed : State → Change → State
 changed s change = replaced s change.dead (made_entries (length s.steps + 1) change.scratch change.made) change.step
+
+-- the change that puts one clause in the place of another
+abbrev pub replacement : Trees → ℕ → Made → Step → Change
+replacement scratch id made step = record { dead = id ∷ []; made = made ∷ []; defines = None; step = step; scratch = scratch }
 
 -- each id is live, and none repeats
 abbrev pub AreLive : List (Option Entry) → List ℕ → Type 0
