@@ -5,3 +5,5 @@ pub mod Places
 pub mod Committing
 pub mod Reserving
 pub mod Loading
+pub mod SameTrees
+pub mod Removing
