@@ -5,6 +5,8 @@ pub mod Places
 pub mod Committing
 pub mod Reserving
 pub mod Loading
+pub mod SameTrees
+pub mod Removing
 pub mod SameTree
 pub mod Merged
 pub mod Live

@@ -1,14 +1,16 @@
 -- The start state of a loaded program, and that loading keeps what is provable.
-use Rattle.std.proofs.Common.{◌≡◌, ℕ, ◌+◌, List, [], ◌∷◌, refl, sym, ◌∙◌, ap, subst, map, ◌↔◌}
-use Rattle.std.specs.Prelude.{Option, Some, None, All}
+use Rattle.std.proofs.Common.{◌≡◌, ℕ, ◌+◌, ◌≤◌, List, [], ◌∷◌, length, refl, sym, ◌∙◌, ap, subst, map, arith, ◌↔◌}
+use Rattle.std.specs.Prelude.{Option, Some, None, All, Ok}
+use Rattle.std.proofs.lemmas.List.{length-map}
 use Rattle.std.proofs.lemmas.List.Elements.{All-contains}
 use Rattle.clp_model.specs.declared.predicate.Pred.{Pred}
 use Rattle.clp_model.specs.Values.{GroundAtom}
 use Rattle.clp_model.specs.Clauses.{Clause}
 use Rattle.clp_model.specs.Proof.{Provable}
 use Rattle.clp_model.specs.Canonical.{canonical_form, clause_size}
-use Rattle.clp_syntax.specs.Load.{Program, sizes_of}
-use Rattle.clp_syntax.proofs.LoadedPrograms.{Made, IsLoaded, there, back}
+use Rattle.clp_syntax.specs.Load.{Program, sizes_of, load}
+use Rattle.clp_syntax.proofs.LoadedPrograms as loading
+use Rattle.clp_syntax.proofs.LoadedPrograms.{Made, IsLoaded, there, back, length_made}
 use Rattle.clp_meaning.specs.Laws.{HasNoConstraint, HasInstancesOf}
 use Rattle.clp_meaning.proofs.Membership.{to_among, from_among}
 use Rattle.clp_meaning.proofs.Canonical.{new_clause_is_canonical}
@@ -45,3 +47,16 @@ made_proves_the_same source clauses made none a =
       (x.0, from_among x.1, subst (λ y. HasInstancesOf x.0 y) (sym e) (canonical_form_keeps_instances x.0 (All-contains HasNoConstraint source x.0 none (from_among x.1))).1))
     a
 
+
+-- ---- what starting asks of a loaded program
+pub loaded_places : (source : List Clause) (p : Program) → load source ≡ Ok p → length p.clauses ≡ length source
+loaded_places source p h =
+    let l = loading.loaded source p h in
+    ap length l.is ∙ (length-map l.clauses Some ∙ length_made l.made)
+
+pub loaded_nodes : (source : List Clause) (p : Program) → load source ≡ Ok p → total_nodes p.clauses ≤ 8388608
+loaded_nodes source p h =
+    let l = loading.loaded source p h in
+    let nodes = start_nodes source p l in
+    let small = l.small in
+    omega (arith, nodes, small)

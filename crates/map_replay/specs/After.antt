@@ -94,19 +94,20 @@ rewritten s r = replaced_by s r.dead r.step (new_entries (length s.steps + 1) r.
 -- ---- merge C at I,J
 
 -- positions count from 1
-abbrev pub in_range : List (Tree ℕ) → ℕ → Bool
-in_range atoms position = nat_lt 0 position && nat_le position (length atoms)
+abbrev pub in_range : ℕ → ℕ → Bool
+in_range count position = nat_lt 0 position && nat_le position count
 
-abbrev pub same_at : List (Tree ℕ) → ℕ → ℕ → Bool
-same_at atoms i j = same_tree (slice_index_or atoms i (Var 0)) (slice_index_or atoms j (Var 0))
+-- the atom at this position
+abbrev pub atom_of : List (Tree ℕ) → ℕ → Tree ℕ
+atom_of atoms position = slice_index_or atoms (position - 1) (Var 0)
 
 -- the first broken condition on the positions, if there is one
 abbrev pub first_broken : List (Tree ℕ) → ℕ → ℕ → Option Refusal
 first_broken atoms first second =
-    if not (in_range atoms first) then Some (NoAtom first)
-    else (if not (in_range atoms second) then Some (NoAtom second)
+    if not (in_range (length atoms) first) then Some (NoAtom first)
+    else (if not (in_range (length atoms) second) then Some (NoAtom second)
     else (if nat_eq first second then Some (RepeatedPosition second)
-    else (if not (same_at atoms (first - 1) (second - 1)) then Some (NotEqualAtoms first second)
+    else (if not (same_tree (atom_of atoms first) (atom_of atoms second)) then Some (NotEqualAtoms first second)
     else None)))
 
 -- the clause without the atom at this place, counted from 0

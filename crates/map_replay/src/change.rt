@@ -1,3 +1,5 @@
+ghost use Rattle.std.specs.Prelude.{◌≡◌, []};
+
 use crate::state::Entry;
 use crate::step::Step;
 use clause_core::{Clause, Pred};
@@ -26,7 +28,9 @@ pub struct Change {
 
 impl Change {
     /// The change that kills, makes and defines nothing.
-    pub fn new(alloc: Global, step: Step, scratch: Store) -> Change {
+    pub fn new(alloc: Global, step: Step, scratch: Store) -> Change
+        ensures { result ≡ record { dead = []; made = []; defines = None; step = step; scratch = scratch } }
+    {
         Change {
             dead: Items::new(alloc),
             made: Items::new(alloc),

@@ -1,9 +1,10 @@
-ghost use Rattle.std.specs.Prelude.{◌≡◌, ◌⊎◌, ◌<◌, ◌≤◌, Ok, Err, OnOk, OnErr, IfOk, IfErr, IfSome, IfNone, length, option_map};
+ghost use Rattle.std.specs.Prelude.{◌≡◌, ◌⊎◌, ◌<◌, ◌≤◌, Ok, Err, OnOk, OnErr, IfOk, IfErr, IfSome, IfNone, IsTrue, length, option_map};
 ghost use Rattle.std.specs.Option.{option_copied};
 ghost use Rattle.clause_core.specs.Stored.{clause_in, raw_in, atoms_at, IsStored, IsRaw};
 ghost use Rattle.map_replay.specs.declared.refusal.Refusal.TheVariants.{NoMemory};
+ghost use Rattle.map_replay.specs.SameTree.{same_tree};
 ghost use Rattle.map_replay.specs.State.{live_at};
-ghost use Rattle.map_replay.specs.After.{first_broken, within_limits, without_place, merge_after};
+ghost use Rattle.map_replay.specs.After.{first_broken, in_range, atom_of, within_limits, without_place, merge_after};
 ghost use Rattle.map_replay.specs.Seen.{state_of, entry_in};
 ghost use Rattle.map_replay.specs.Changes.{IsChange, changed, replacement};
 
@@ -15,7 +16,7 @@ use crate::step::Step;
 use clause_core::{Clause, RawClause, canonical};
 use sqlite_items::Items;
 use std::alloc::Global;
-use term_store::{NoMemory, Store, Term};
+use term_store::{NoMemory, Store};
 
 /// `merge C at I,J`: a clause with two equal atoms is replaced by the same without the second.
 pub fn merge(state: &mut State, id: u32, first: u32, second: u32) -> Result<Step, Refusal>
@@ -84,25 +85,44 @@ fn live_at(state: &State, id: u32) -> Option<&Entry>
 }
 
 /// The first broken condition on the positions, if there is one.
+#[tactic(auto, using(crate::proofs::SameTrees::length_atoms))]
 fn first_broken(store: &Store, clause: &Clause, first: u32, second: u32) -> Option<Refusal>
     requires { IsStored store.now clause.now }
     ensures value { result ≡ first_broken (atoms_at store.now clause.now.atoms) first second }
     ensures within { IfNone result ((0 < second) × (second ≤ length clause.now.atoms)) }
 {
-    let atoms = clause.atoms.as_slice();
-    if first == 0 || first as usize > atoms.len() {
+    let count = clause.atoms.len();
+    if !in_range(count, first) {
         return Some(Refusal::NoAtom(first));
     }
-    if second == 0 || second as usize > atoms.len() {
+    if !in_range(count, second) {
         return Some(Refusal::NoAtom(second));
     }
     if first == second {
         return Some(Refusal::RepeatedPosition(second));
     }
-    if !store.same(atoms[(first - 1) as usize], atoms[(second - 1) as usize]) {
+    if !same_atoms(store, clause, first, second) {
         return Some(Refusal::NotEqualAtoms(first, second));
     }
     None
+}
+
+fn in_range(count: usize, position: u32) -> bool
+    ensures value { result ≡ in_range count position }
+    ensures within { IsTrue result → (0 < position) × (position ≤ count) }
+{
+    position > 0 && position as usize <= count
+}
+
+/// Whether the atoms at these positions are equal.
+fn same_atoms(store: &Store, clause: &Clause, first: u32, second: u32) -> bool
+    requires stored { IsStored store.now clause.now }
+    requires first { (0 < first) × (first ≤ length clause.now.atoms) }
+    requires second { (0 < second) × (second ≤ length clause.now.atoms) }
+    ensures { result ≡ same_tree (atom_of (atoms_at store.now clause.now.atoms) first) (atom_of (atoms_at store.now clause.now.atoms) second) }
+{
+    let atoms = clause.atoms.as_slice();
+    store.same(atoms[(first - 1) as usize], atoms[(second - 1) as usize])
 }
 
 /// The parts of a clause without the atom at this place, in another store.

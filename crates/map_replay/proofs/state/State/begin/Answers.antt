@@ -11,8 +11,8 @@ pub invariant_of-result : goal.invariant_of-result
 invariant_of-result c =
     let count = ap count_of c.as_slice.ensures.value in
     let nodes = ap (λ (cs : List (Option Clause)). total_nodes (clauses_in c.args.store cs)) c.as_slice-2.ensures.value in
-    begun_sound c.args.store c.args.clauses.items c.args.preds.items _
-    (record { store_is = refl; entries = c.in_ok-entries.ensures; initials = c.from_vec.ensures; history = c.new.ensures.items; live = c.present_count-live.ensures.value ∙ count; nodes = c.total_size-nodes.ensures ∙ nodes })
+    begun_sound c.args.store c.args.clauses.items c.args.preds _
+    (record { store_is = refl; entries = c.in_ok-entries.ensures; initials = refl; history = c.new.ensures.items; live = c.present_count-live.ensures.value ∙ count; nodes = c.total_size-nodes.ensures ∙ nodes })
     c.requires.stored (omega (arith, c.requires.places, c.args.clauses.ok.0)) (omega (arith, c.present_count-live.ensures.value, c.present_count-live.ensures.few, count)) c.requires.nodes
 
 pub returns : goal.returns
@@ -23,12 +23,12 @@ returns c =
     record {
       store = c.args.store;
       entries = c.in_ok-entries.entries.items;
-      initials = c.from_vec.result;
+      initials = c.args.preds;
       history = c.new.result.items;
       live = c.present_count-live.result;
       nodes = c.total_size-nodes.result;
       room = vec_capacity c.in_ok-entries.entries - vec_len c.in_ok-entries.entries;
       history_room = vec_capacity c.new.result - vec_len c.new.result;
     } in
-    begun_state c.args.store c.args.clauses.items c.args.preds.items seen
-    (record { store_is = refl; entries = c.in_ok-entries.ensures; initials = c.from_vec.ensures; history = c.new.ensures.items; live = c.present_count-live.ensures.value ∙ count; nodes = c.total_size-nodes.ensures ∙ nodes })
+    begun_state c.args.store c.args.clauses.items c.args.preds seen
+    (record { store_is = refl; entries = c.in_ok-entries.ensures; initials = refl; history = c.new.ensures.items; live = c.present_count-live.ensures.value ∙ count; nodes = c.total_size-nodes.ensures ∙ nodes })
