@@ -1,6 +1,6 @@
 -- A reserved change takes effect.
-use Rattle.std.proofs.Common.{◌≡◌, ℕ, ◌+◌, ◌-◌, ◌<◌, ◌≤◌, List, [], ◌∷◌, ◌++◌, length, refl, ap, ◌∙◌, sym, subst, arith, map, length-append}
-use Rattle.std.specs.Prelude.{Option, Some, None}
+use Rattle.std.proofs.Common.{◌≡◌, ℕ, ◌+◌, ◌≤◌, List, [], ◌∷◌, ◌++◌, length, ap, ◌∙◌, sym, subst, arith, map, length-append}
+use Rattle.std.specs.Prelude.{Option, Some}
 use Rattle.map_replay.specs.declared.step.Step.{Step}
 use Rattle.map_replay.specs.declared.state.Entry.{Entry as Row}
 use Rattle.map_replay.specs.declared.change.Ready.{Ready}
@@ -79,6 +79,14 @@ module _ (old new : Seen) (ready : Ready) (sound : IsSound old) (is_ready : IsRe
         few_live = omega arith;
         few_nodes = omega arith;
         few_steps = omega (arith, ap (λ (xs : List Step). length xs) is.history, length-append old.history (ready.step ∷ []), is_ready.steps);
-        few_ids = omega (arith, ap (λ (xs : List (Option Row)). length xs) is.entries, length-append (rows_killed old.entries ready.dead) ready.entries.items, length_killed old.entries ready.dead,
-          present_length old.store ready.entries.items is_ready.fresh, as_many_nodes (present (entries_in old.store ready.entries.items)), sound.few_ids, new_nodes);
+        few_ids = omega (
+          arith,
+          ap (λ (xs : List (Option Row)). length xs) is.entries,
+          length-append (rows_killed old.entries ready.dead) ready.entries.items,
+          length_killed old.entries ready.dead,
+          present_length old.store ready.entries.items is_ready.fresh,
+          as_many_nodes (present (entries_in old.store ready.entries.items)),
+          sound.few_ids,
+          new_nodes,
+        );
       }

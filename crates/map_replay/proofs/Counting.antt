@@ -1,10 +1,8 @@
 -- The limits of a state, counted.
-use Rattle.std.proofs.Common.{◌≡◌, ℕ, zero, suc, ◌+◌, ◌-◌, ◌*◌, ◌<◌, ◌≤◌, List, [], ◌∷◌, ◌++◌, length, refl, ap, ◌∙◌, sym, arith, map, Bool, true, false, length-append}
+use Rattle.std.proofs.Common.{◌≡◌, ℕ, suc, ◌+◌, ◌<◌, ◌≤◌, List, [], ◌∷◌, ◌++◌, length, refl, ap, arith, map, Bool, true, false, length-append}
 use Rattle.std.specs.Prelude.{Option, Some, None, option_map, nat_lt, if◌then◌else◌}
 use Rattle.std.proofs.lemmas.Bool.Decides.{nat_tests}
-use Rattle.clp_model.specs.declared.limit.Limit.{Limit}
 use Rattle.clp_model.specs.declared.limit.Limit.TheVariants.{Clauses, Nodes}
-use Rattle.clp_model.specs.Trees.{size, total_size}
 use Rattle.clp_model.specs.Clauses.{Clause}
 use Rattle.clp_model.specs.Canonical.{clause_size}
 use Rattle.clp_model.proofs.Trees.{size_positive}
@@ -16,7 +14,7 @@ use Rattle.map_replay.specs.State.{Entry, State, is_live, clauses_where, live_co
 use Rattle.map_replay.specs.After.{state_limit, entries_nodes, killed}
 use Rattle.map_replay.specs.Seen.{Trees, entry_in, entries_in, AllStored}
 use Rattle.map_replay.specs.Changes.{made_entries, present, AllNew, AreLive, IsChange, changed}
-use Rattle.map_replay.specs.Rows.{nodes_of_made, AreMade}
+use Rattle.map_replay.specs.Rows.{nodes_of_made}
 use Rattle.map_replay.proofs.Killing.{killed_fewer}
 
 -- ---- the limits
@@ -47,9 +45,9 @@ where_append test [] ys = refl
 where_append test (None ∷ xs) ys = where_append test xs ys
 where_append test (Some e ∷ xs) ys = by_flag (test e) e.clause (clauses_where test (xs ++ ys)) (clauses_where test xs) (clauses_where test ys) (where_append test xs ys)
   where
-  by_flag : (b : Bool) (c : Clause) (all front back : List Clause) → all ≡ front ++ back → (if b then c ∷ all else all) ≡ (if b then c ∷ front else front) ++ back
-  by_flag true c all front back h = ap (λ cs. c ∷ cs) h
-  by_flag false c all front back h = h
+    by_flag : (b : Bool) (c : Clause) (all front back : List Clause) → all ≡ front ++ back → (if b then c ∷ all else all) ≡ (if b then c ∷ front else front) ++ back
+    by_flag true c all front back h = ap (λ cs. c ∷ cs) h
+    by_flag false c all front back h = h
 
 pub made_live : (number : ℕ) (store : Trees) (made : List Made) → length (clauses_where is_live (map Some (made_entries number store made))) ≡ length made
 made_live number store [] = refl

@@ -1,7 +1,7 @@
 -- The headline: whatever replay accepts, the program that it writes proves what the input program proves.
-use Rattle.std.proofs.Common.{◌≡◌, ℕ, zero, suc, ◌+◌, ◌≤◌, List, [], ◌∷◌, ◌++◌, length, refl, sym, ◌∙◌, ap, subst, map, arith, ◌↔◌}
-use Rattle.std.specs.Prelude.{Result, Ok, Err, All, Contains, Option, Some}
-use Rattle.std.proofs.lemmas.List.Elements.{All-nil, All-cons, All-head, All-tail, All-weaker}
+use Rattle.std.proofs.Common.{◌≡◌, ℕ, List, [], ◌∷◌, length, refl, sym, ◌∙◌, ap, subst, map, arith, ◌↔◌}
+use Rattle.std.specs.Prelude.{Result, Ok, Err, All, Contains, Some}
+use Rattle.std.proofs.lemmas.List.Elements.{All-nil, All-cons, All-head, All-tail}
 use Rattle.std.proofs.lemmas.List.{length-map}
 use Rattle.clp_tokens.specs.declared.fault.Fault.{Fault}
 use Rattle.clp_model.specs.declared.limit.Limit.{Limit}
@@ -9,11 +9,10 @@ use Rattle.clp_model.specs.declared.clause.SourceClause.{SourceClause}
 use Rattle.clp_model.specs.Values.{GroundAtom}
 use Rattle.clp_model.specs.Clauses.{Clause, of_source}
 use Rattle.clp_model.specs.Proof.{Provable}
-use Rattle.clp_model.specs.Canonical.{canonical_form, new_clause, clause_size, IsCanonical}
+use Rattle.clp_model.specs.Canonical.{IsCanonical}
 use Rattle.clp_model.specs.Predicates.{initial_predicates, ground_predicate, predicate_of}
 use Rattle.clp_syntax.specs.Grammar.{program}
 use Rattle.clp_syntax.specs.Load.{Program, sizes_of, load}
-use Rattle.clp_syntax.specs.Print.{program_text}
 use Rattle.clp_syntax.specs.Readable.{IsReadable, AreReadable, IsPrintable}
 use Rattle.clp_syntax.proofs.Readable.{program_readable}
 use Rattle.clp_syntax.proofs.Programs.{program_again}
@@ -25,11 +24,11 @@ use Rattle.clp_syntax.specs.declared.loading.LoadFault.TheVariants.{TooLarge}
 use Rattle.map_replay.specs.declared.step.Step.{Step}
 use Rattle.map_replay.specs.declared.step.Step.TheVariants.{Merge}
 use Rattle.map_replay.specs.declared.refusal.Refusal.{Refusal}
-use Rattle.map_replay.specs.State.{State, start_state, live_clauses, live_count}
+use Rattle.map_replay.specs.State.{State, start_state, live_clauses}
 use Rattle.map_replay.specs.After.{run}
 use Rattle.map_replay.specs.Script.{script}
-use Rattle.map_replay.specs.Replay.{started, loaded, opened, unless_refused, carried_out, scripted, then_scripted, replayed, output}
-use Rattle.map_replay.specs.Headline.{definition_of, definitions_of, KeepsProvability}
+use Rattle.map_replay.specs.Replay.{started, loaded, unless_refused, carried_out, then_scripted, replayed, output}
+use Rattle.map_replay.specs.Headline.{definitions_of, KeepsProvability}
 use Rattle.map_replay.proofs.Plain.{IsPlainClause, plain_canonical}
 use Rattle.map_replay.proofs.Sound.{IsSound, run_sound}
 use Rattle.map_replay.proofs.Keeping.{run_keeps_provability}
@@ -147,10 +146,11 @@ keeps_provability p s t h =
     let end = run_sound begun t r.steps r.runs sound in
     let back = program_again (live_clauses t) end.few (all_printable (live_clauses t) end.canonical end.plain) in
     let same : (a : GroundAtom) → Provable (map of_source back.0) a ↔ Provable (map of_source r.source) a = λ a.
-        let one = run_keeps_provability begun t r.steps sound.canonical r.runs a in
-        let two = made_proves_the_same (map of_source r.source) l.clauses l.made (sources_none r.source) a in
-        (λ x. two.0 (subst (λ cs. Provable cs a) live (one.0 (subst (λ cs. Provable cs a) back.2 x))),
-         λ x. subst (λ cs. Provable cs a) (sym back.2) (one.1 (subst (λ cs. Provable cs a) (sym live) (two.1 x)))) in
+    let one = run_keeps_provability begun t r.steps sound.canonical r.runs a in
+    let two = made_proves_the_same (map of_source r.source) l.clauses l.made (sources_none r.source) a in (
+      λ x. two.0 (subst (λ cs. Provable cs a) live (one.0 (subst (λ cs. Provable cs a) back.2 x))),
+      λ x. subst (λ cs. Provable cs a) (sym back.2) (one.1 (subst (λ cs. Provable cs a) (sym live) (two.1 x))),
+    ) in
     let small = end.counted in
     let limit = end.small in
     record {

@@ -1,21 +1,21 @@
 -- A run that is accepted keeps what is provable.
-use Rattle.std.proofs.Common.{◌≡◌, ℕ, zero, suc, ◌+◌, ◌-◌, List, [], ◌∷◌, ◌++◌, refl, sym, ◌∙◌, ap, subst, ◌⊎◌, inl, inr, ◌↔◌, Bool, true, false}
-use Rattle.std.specs.Prelude.{Option, Some, None, Result, Ok, Err, All, Contains, if◌then◌else◌}
+use Rattle.std.proofs.Common.{◌≡◌, ℕ, suc, ◌-◌, List, [], ◌∷◌, ◌++◌, refl, sym, ◌∙◌, ap, subst, inl, inr, ◌↔◌, true}
+use Rattle.std.specs.Prelude.{Option, Some, Result, Ok, Err, All, if◌then◌else◌}
 use Rattle.std.proofs.lemmas.List.Elements.{All-contains, All-nil, All-cons, All-append}
 use Rattle.clp_model.specs.Values.{GroundAtom}
 use Rattle.clp_model.specs.Clauses.{Clause}
 use Rattle.clp_model.specs.Proof.{Provable}
-use Rattle.clp_model.specs.Canonical.{canonical_form, new_clause, IsCanonical}
-use Rattle.clp_meaning.specs.Laws.{HasNoConstraint, HasTwice, without_atom, Replaced}
+use Rattle.clp_model.specs.Canonical.{canonical_form, IsCanonical}
+use Rattle.clp_meaning.specs.Laws.{HasNoConstraint, without_atom, Replaced}
 use Rattle.clp_meaning.proofs.Membership.{Among, first, next, to_among, from_among, among_front, among_back, among_either}
 use Rattle.clp_meaning.proofs.Canonical.{new_clause_is_canonical}
 use Rattle.clp_meaning.proofs.Merging.{merge_keeps_provability}
 use Rattle.map_replay.specs.declared.step.Step.{Step}
 use Rattle.map_replay.specs.declared.refusal.Refusal.{Refusal}
 use Rattle.map_replay.specs.State.{Entry, State, live_clauses}
-use Rattle.map_replay.specs.After.{changed_at, dead_entry, after, run, run_from, go_on}
+use Rattle.map_replay.specs.After.{changed_at, dead_entry, after, run_from, go_on}
 use Rattle.map_replay.specs.Law.{HasCanonicalClauses, RunKeepsProvability}
-use Rattle.map_replay.proofs.Merged.{Merges, after_merges, ok_same, never_ok}
+use Rattle.map_replay.proofs.Merged.{Merges, after_merges, ok_same}
 use Rattle.map_replay.proofs.Live.{live, still_live, was_live, goes_from, live_append}
 
 -- a canonical clause has no equation and no row
@@ -43,13 +43,13 @@ module _ (s t : State) (m : Merges s t) where
         was = from_among (goes_from m.entry s.entries (m.id - 1) m.here m.is_live);
         now = from_among (subst (λ xs. Among m.made xs) (sym live_after) (among_back m.made (live rest) (m.made ∷ []) first));
         kept = λ x k. elim (still_live x m.entry s.entries (m.id - 1) m.here (to_among (live_clauses s) x k)) [
-            | inl e ↦ inl e
-            | inr n ↦ inr (from_among (subst (λ xs. Among x xs) (sym live_after) (among_front x (live rest) (m.made ∷ []) n)))
-          ];
+          | inl e ↦ inl e
+          | inr n ↦ inr (from_among (subst (λ xs. Among x xs) (sym live_after) (among_front x (live rest) (m.made ∷ []) n)))
+        ];
         old = λ x k. elim (among_either x (live rest) (m.made ∷ []) (subst (λ xs. Among x xs) live_after (to_among (live_clauses t) x k))) [
-            | inl n ↦ inr (from_among (was_live x s.entries (m.id - 1) n))
-            | inr n ↦ inl (only x m.made n)
-          ];
+          | inl n ↦ inr (from_among (was_live x s.entries (m.id - 1) n))
+          | inr n ↦ inl (only x m.made n)
+        ];
       }
     where
       only : (x y : Clause) → Among x (y ∷ []) → x ≡ y

@@ -1,10 +1,10 @@
 -- Entries that are no longer live.
-use Rattle.std.proofs.Common.{◌≡◌, ℕ, zero, suc, ◌+◌, ◌-◌, ◌<◌, ◌≤◌, List, [], ◌∷◌, ◌++◌, length, refl, ap, ◌∙◌, sym, arith, map, Bool, true, false, cond}
+use Rattle.std.proofs.Common.{◌≡◌, ℕ, zero, suc, ◌+◌, ◌-◌, ◌<◌, ◌≤◌, List, [], ◌∷◌, length, refl, ap, ◌∙◌, arith, Bool, true, false}
 use Rattle.std.specs.Prelude.{Option, Some, None, option_map, IsSome, slice_set, slice_index_or, nat_lt, if◌then◌else◌}
 use Rattle.std.proofs.lemmas.Bool.Decides.{nat_tests}
 use Rattle.clp_model.specs.Clauses.{Clause}
 use Rattle.map_replay.specs.declared.state.Entry.{Entry as Row}
-use Rattle.map_replay.specs.State.{Entry, State, entry_of, if_live, is_live, clauses_where, live_count}
+use Rattle.map_replay.specs.State.{Entry, entry_of, if_live, is_live, clauses_where}
 use Rattle.map_replay.specs.After.{changed_at, dead_entry, killed}
 use Rattle.map_replay.specs.Seen.{Trees, entry_in, entries_in, AllStored}
 use Rattle.map_replay.specs.Changes.{AreLive}

@@ -1,8 +1,8 @@
 -- What is live after an entry goes and another comes.
-use Rattle.std.proofs.Common.{◌≡◌, ℕ, zero, suc, ◌+◌, ◌<◌, List, [], ◌∷◌, ◌++◌, length, refl, sym, ◌∙◌, ap, subst, arith, ◌⊎◌, inl, inr, Bool, true, false}
+use Rattle.std.proofs.Common.{◌≡◌, ℕ, zero, suc, List, [], ◌∷◌, ◌++◌, refl, ◌∙◌, ap, subst, ◌⊎◌, inl, inr, Bool, true, false}
 use Rattle.std.specs.Prelude.{Option, Some, None, slice_index_or, if◌then◌else◌}
 use Rattle.clp_model.specs.Clauses.{Clause}
-use Rattle.clp_meaning.proofs.Membership.{Among, first, next, among_front, among_back, among_either}
+use Rattle.clp_meaning.proofs.Membership.{Among, first, next}
 use Rattle.map_replay.specs.State.{Entry, clauses_where, is_live}
 use Rattle.map_replay.specs.After.{changed_at, dead_entry}
 

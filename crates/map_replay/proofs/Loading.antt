@@ -1,12 +1,12 @@
 -- The state of a loaded program.
-use Rattle.std.proofs.Common.{◌≡◌, ℕ, suc, ◌≤◌, List, [], ◌∷◌, length, refl, ap, ◌∙◌, sym, subst, arith, map}
+use Rattle.std.proofs.Common.{◌≡◌, suc, ◌≤◌, List, [], ◌∷◌, length, refl, ap, ◌∙◌, sym, subst, arith, map}
 use Rattle.std.specs.Prelude.{Option, Some, None, option_map}
 use Rattle.clp_model.specs.declared.predicate.Pred.{Pred}
 use Rattle.clause_core.specs.declared.clause.Clause.{Clause as Kept}
 use Rattle.clause_core.specs.Stored.{clause_in}
 use Rattle.map_replay.specs.declared.step.Step.{Step}
 use Rattle.map_replay.specs.declared.state.Entry.{Entry as Row}
-use Rattle.map_replay.specs.State.{State, is_live, clauses_where, live_count, loaded_entry, start_state, total_nodes}
+use Rattle.map_replay.specs.State.{is_live, clauses_where, loaded_entry, start_state, total_nodes}
 use Rattle.map_replay.specs.Seen.{Trees, Seen, IsSound, AllStored, AllClausesStored, state_of, entries_in, clauses_in}
 use Rattle.map_replay.specs.Rows.{loaded_row, count_of}
 

@@ -1,20 +1,20 @@
 -- What an accepted step has done.
-use Rattle.std.proofs.Common.{◌≡◌, ◌≢◌, ℕ, zero, suc, ◌+◌, ◌-◌, ◌<◌, ◌≤◌, List, [], ◌∷◌, ◌++◌, length, refl, sym, ◌∙◌, ap, subst, arith, Bool, true, false, ◌&&◌, eq-eqb}
-use Rattle.std.specs.Prelude.{Option, Some, None, Result, Ok, Err, slice_index_or, nat_eq, nat_lt, nat_le, not, if◌then◌else◌, remove}
-use Rattle.std.proofs.lemmas.Bool.{eqb-true, ltb-true, ltb-false}
+use Rattle.std.proofs.Common.{◌≡◌, ◌≢◌, ℕ, zero, suc, ◌+◌, ◌-◌, ◌<◌, ◌≤◌, List, [], ◌∷◌, length, refl, sym, ◌∙◌, ap, arith, Bool, true, false, ◌&&◌, eq-eqb}
+use Rattle.std.specs.Prelude.{Option, Some, None, Result, Ok, Err, slice_index_or, nat_eq, nat_lt, nat_le, not, if◌then◌else◌}
+use Rattle.std.proofs.lemmas.Bool.{ltb-true, ltb-false}
 use Rattle.clp_model.specs.declared.tree.Tree.{Tree, Var}
 use Rattle.clp_model.specs.declared.limit.Limit.{Limit}
 use Rattle.clp_model.specs.declared.limit.Limit.TheVariants.{Clauses, Nodes, Steps}
 use Rattle.clp_model.specs.Clauses.{Clause}
-use Rattle.clp_model.specs.Canonical.{new_clause, clause_size}
+use Rattle.clp_model.specs.Canonical.{new_clause}
 use Rattle.clp_meaning.specs.Laws.{HasTwice, without_atom}
 use Rattle.map_replay.specs.declared.step.Step.{Step}
 use Rattle.map_replay.specs.declared.step.Step.TheVariants.{Merge}
 use Rattle.map_replay.specs.declared.refusal.Refusal.{Refusal}
 use Rattle.map_replay.specs.declared.refusal.Refusal.TheVariants.{NoClause, NoAtom, RepeatedPosition, NotEqualAtoms, TooLarge}
 use Rattle.map_replay.specs.SameTree.{same_tree}
-use Rattle.map_replay.specs.State.{Entry, State, entry_at, live_count, if_live, live_at}
-use Rattle.map_replay.specs.After.{Draft, Rewriting, new_entry, new_entries, put_first, killed, replaced, state_limit, unless_limit, within_limits, replaced_by, rewritten, in_range, same_at, first_broken, merged, unless_broken, merge_of, by_rule, after}
+use Rattle.map_replay.specs.State.{Entry, State, live_count, if_live, live_at}
+use Rattle.map_replay.specs.After.{new_entry, put_first, replaced, unless_limit, within_limits, replaced_by, rewritten, in_range, atom_of, first_broken, merged, unless_broken, merge_of, by_rule, after}
 use Rattle.map_replay.proofs.SameTree.{same_tree_is}
 
 -- a merge in the live entry with this id, and the state after it
@@ -65,7 +65,7 @@ record Positions (atoms : List (Tree ℕ)) (first second : ℕ) : Type 0 where
   apart : first ≢ second
   same : slice_index_or atoms (first - 1) (Var 0) ≡ slice_index_or atoms (second - 1) (Var 0)
 
-within : (atoms : List (Tree ℕ)) (at : ℕ) → in_range atoms at ≡ true → (0 < at) × (at ≤ length atoms)
+within : (atoms : List (Tree ℕ)) (at : ℕ) → in_range (length atoms) at ≡ true → (0 < at) × (at ≤ length atoms)
 within atoms at h =
     let p = both (nat_lt 0 at) (nat_le at (length atoms)) h in
     (ltb-true 0 at p.0, le_true at (length atoms) p.1)
@@ -74,9 +74,9 @@ different : (m n : ℕ) → nat_eq m n ≡ false → m ≢ n
 different m n h e = let k = eq-eqb m n e in cc
 
 positions : (atoms : List (Tree ℕ)) (i j : ℕ) → first_broken atoms i j ≡ None → Positions atoms i j
-positions atoms i j = by (in_range atoms i) refl (in_range atoms j) refl (nat_eq i j) refl (same_at atoms (i - 1) (j - 1)) refl
+positions atoms i j = by (in_range (length atoms) i) refl (in_range (length atoms) j) refl (nat_eq i j) refl (same_tree (atom_of atoms i) (atom_of atoms j)) refl
   where
-    by : (a : Bool) → in_range atoms i ≡ a → (b : Bool) → in_range atoms j ≡ b → (c : Bool) → nat_eq i j ≡ c → (d : Bool) → same_at atoms (i - 1) (j - 1) ≡ d
+    by : (a : Bool) → in_range (length atoms) i ≡ a → (b : Bool) → in_range (length atoms) j ≡ b → (c : Bool) → nat_eq i j ≡ c → (d : Bool) → same_tree (atom_of atoms i) (atom_of atoms j) ≡ d
         → (if not a then Some (NoAtom i) else (if not b then Some (NoAtom j) else (if c then Some (RepeatedPosition j) else (if not d then Some (NotEqualAtoms i j) else None)))) ≡ None
         → Positions atoms i j
     by false ea b eb c ec d ed h = absurd (no_refusal (NoAtom i) h)
@@ -119,6 +119,7 @@ found_live s id e = by (nat_lt 0 id) (slice_index_or s.entries (id - 1) None) re
     live : (f : Entry) (b : Bool) → f.live ≡ b → (if b then Some f else None) ≡ Some e → (◌≡◌ {A = Option Entry} (Some f) (Some e)) × (e.live ≡ true)
     live f true hb h = (h, ap (λ (g : Entry). g.live) (sym (some_same f e h)) ∙ hb)
     live f false hb h = absurd (not_none e h)
+
     by : (b : Bool) (o : Option Entry) → slice_index_or s.entries (id - 1) None ≡ o → if_live (if b then o else None) ≡ Some e → (slice_index_or s.entries (id - 1) None ≡ Some e) × (e.live ≡ true)
     by false o eo h = absurd (not_none e h)
     by true None eo h = absurd (not_none e h)

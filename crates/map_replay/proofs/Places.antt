@@ -1,6 +1,6 @@
 -- The elements of lists by their places.
-use Rattle.std.proofs.Common.{◌≡◌, ℕ, zero, suc, ◌+◌, ◌<◌, List, [], ◌∷◌, ◌++◌, length, refl, ap, ◌∙◌, sym, subst, arith, map, take, drop, get_or, add-one, append_assoc, Bor}
-use Rattle.std.specs.Prelude.{Option, Some, None, option_map, IfSome, slice_index_or, slice_set, if◌then◌else◌, true, false, nat_lt}
+use Rattle.std.proofs.Common.{◌≡◌, ℕ, zero, suc, ◌+◌, ◌<◌, List, [], ◌∷◌, ◌++◌, length, refl, ap, ◌∙◌, sym, subst, arith, map, take, drop, get_or, add-one, Bor}
+use Rattle.std.specs.Prelude.{Option, Some, None, IfSome, slice_index_or, if◌then◌else◌, true, nat_lt}
 use Rattle.std.specs.Option.{option_copied}
 use Rattle.std.proofs.Math.Seq.{drop-cons}
 use Rattle.std.proofs.lemmas.List.{take_more}
@@ -9,14 +9,12 @@ use Rattle.term_store.specs.Trees.{Keeps}
 use Rattle.clause_core.specs.Stored.{IsStored}
 use Rattle.map_replay.specs.declared.state.Entry.{Entry as Row}
 use Rattle.map_replay.specs.declared.change.Made.{Made}
-use Rattle.map_replay.specs.State.{Entry, ids_where, is_live}
-use Rattle.map_replay.specs.After.{changed_at}
+use Rattle.map_replay.specs.State.{ids_where, is_live}
 use Rattle.map_replay.specs.Seen.{Trees, entry_in, entries_in, AllStored}
-use Rattle.map_replay.specs.Changes.{AllMade, made_entry, made_entries, AllNew}
-use Rattle.map_replay.specs.Rows.{AreMade, is_live_row, dead_row}
+use Rattle.map_replay.specs.Changes.{AllMade, made_entry, made_entries}
+use Rattle.map_replay.specs.Rows.{AreMade, is_live_row}
 use Rattle.map_replay.proofs.KeptClauses.{entries_kept, all_stored_kept}
 use Rattle.map_replay.proofs.Counting.{in_append, stored_append, new_append}
-use Rattle.map_replay.proofs.Killing.{changed_is_set}
 
 stored_at : (store : Trees) (rows : List (Option Row)) (i : ℕ) (d : Option Row) (e : Row) → AllStored store rows → i < length rows → slice_index_or rows i d ≡ Some e → IsStored store e.clause
 stored_at store [] i d e s k h = absurd (omega arith)
@@ -68,6 +66,6 @@ ids_at store rows i id r within item =
     let cut : drop i rows ≡ r ∷ drop (i + 1) rows = drop-cons rows i r within ∙ ap (λ x. x ∷ drop (suc i) rows) (sym item) ∙ ap (λ n. r ∷ drop n rows) (sym (add-one i)) in
     ap (λ rs. ids_where is_live id (entries_in store rs)) cut ∙ first_id r (drop (i + 1) rows)
   where
-  first_id : (r : Option Row) (rest : List (Option Row)) → ids_where is_live id (entries_in store (r ∷ rest)) ≡ (if is_live_row r then id ∷ ids_where is_live (suc id) (entries_in store rest) else ids_where is_live (suc id) (entries_in store rest))
-  first_id None rest = refl
-  first_id (Some e) rest = refl
+    first_id : (r : Option Row) (rest : List (Option Row)) → ids_where is_live id (entries_in store (r ∷ rest)) ≡ (if is_live_row r then id ∷ ids_where is_live (suc id) (entries_in store rest) else ids_where is_live (suc id) (entries_in store rest))
+    first_id None rest = refl
+    first_id (Some e) rest = refl

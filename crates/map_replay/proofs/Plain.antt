@@ -1,6 +1,6 @@
 -- Renaming variables and leaving out an atom keep a clause printable.
-use Rattle.std.proofs.Common.{◌≡◌, ℕ, zero, suc, ◌<◌, List, [], ◌∷◌, ◌++◌, length, refl, sym, ◌∙◌, ap, subst, map, arith, Bool, true, false, ◌&&◌}
-use Rattle.std.specs.Prelude.{All, remove, nat_eq, slice_index_or, Contains}
+use Rattle.std.proofs.Common.{◌≡◌, ℕ, zero, suc, List, [], ◌∷◌, length, refl, ◌∙◌, ap, map, ◌&&◌}
+use Rattle.std.specs.Prelude.{All, remove, nat_eq, slice_index_or}
 use Rattle.std.specs.Str.{bytes_eq}
 use Rattle.std.proofs.lemmas.List.Elements.{All-nil, All-cons, All-head, All-tail}
 use Rattle.clp_model.specs.declared.sort.Sort.{Sort}
@@ -8,7 +8,7 @@ use Rattle.clp_model.specs.declared.sort.Sort.TheVariants.{Any}
 use Rattle.clp_model.specs.declared.tree.Tree.{Tree, Var, App', Row_of-Tree, end_of-Tree, more_of-Tree, items-the_row-Tree}
 use Rattle.clp_model.specs.Trees.{mapped, mapped_row, mapped_all, IsApplication, name_of, arguments_of}
 use Rattle.clp_model.specs.Clauses.{Clause, sort_in}
-use Rattle.clp_model.specs.Canonical.{canonical_form, variables_met, place_in}
+use Rattle.clp_model.specs.Canonical.{canonical_form, variables_met}
 use Rattle.clp_syntax.specs.Grammar.{is_true}
 use Rattle.clp_syntax.specs.Readable.{HasPlainNames, HavePlainNames, IsPlainAtom}
 use Rattle.clp_meaning.specs.Laws.{without_atom}

@@ -1,17 +1,15 @@
 -- The parts of a clause without one atom, in another store.
-use Rattle.std.proofs.Common.{◌≡◌, ℕ, zero, suc, ◌+◌, ◌<◌, List, [], ◌∷◌, ◌++◌, length, map, refl, ap, ◌∙◌, sym, subst, arith, All, take, drop}
+use Rattle.std.proofs.Common.{◌≡◌, ℕ, zero, suc, List, [], ◌∷◌, ◌++◌, refl, ap, ◌∙◌, sym, subst, All}
 use Rattle.std.specs.Prelude.{remove}
 use Rattle.std.specs.List.{AllByRecursion}
 use Rattle.std.proofs.lemmas.List.Elements.{All-from_recursion, recursion_from_All}
-use Rattle.clp_model.specs.declared.sort.Sort.{Sort}
 use Rattle.clp_model.specs.declared.tree.Variable.{Variable}
 use Rattle.clp_model.specs.declared.tree.Tree.{Tree}
 use Rattle.clp_model.specs.Trees.{mapped, mapped_all, variables, variables_in, IsApplication}
-use Rattle.clp_model.specs.Clauses.{Clause}
 use Rattle.term_store.specs.Trees.{tree_at, trees_at, AreIn, HasTree, HaveTrees, Keeps}
 use Rattle.term_store.proofs.Keeping.{has_tree_kept}
 use Rattle.clause_core.specs.declared.clause.Clause.{Clause as Kept}
-use Rattle.clause_core.specs.Stored.{number_of, atom_at, atoms_at, clause_of, clause_in, HasSort, AreParts}
+use Rattle.clause_core.specs.Stored.{number_of, clause_of, clause_in, HasSort, AreParts}
 use Rattle.map_replay.specs.After.{without_place}
 
 pub in_removed : (store : List (Tree Variable)) (ts : List ℕ) (i : ℕ) → AreIn store ts → AreIn store (remove ts i)
@@ -58,7 +56,7 @@ variables_removed P (t ∷ ts) (suc i) h =
     together P (variables t) (variables_in (remove ts i)) (left_of P (variables t) (variables_in ts) h) (variables_removed P ts i (right_of P (variables t) (variables_in ts) h))
 
 module _ (store mid new : List (Tree Variable)) (clause : Kept) (place head : ℕ) (atoms : List ℕ) (parts : AreParts store clause.head clause.atoms clause.sorts)
-  (after : Keeps mid new) (has : HasTree mid head (tree_at store clause.head)) (have : HaveTrees new atoms (trees_at store (remove clause.atoms place))) where
+    (after : Keeps mid new) (has : HasTree mid head (tree_at store clause.head)) (have : HaveTrees new atoms (trees_at store (remove clause.atoms place))) where
   same_trees : trees_at new (head ∷ atoms) ≡ tree_at store clause.head ∷ remove (trees_at store clause.atoms) place
   same_trees = let a = (has_tree_kept mid new head (tree_at store clause.head) after has).is in let b = have.are ∙ trees_removed store clause.atoms place in cc
 

@@ -1,13 +1,12 @@
 -- A change is put into the state's store.
-use Rattle.std.proofs.Common.{◌≡◌, ℕ, ◌+◌, ◌-◌, ◌<◌, ◌≤◌, List, [], ◌∷◌, ◌++◌, length, refl, ap, ◌∙◌, sym, subst, arith, map}
-use Rattle.std.specs.Prelude.{Option, Some, None}
+use Rattle.std.proofs.Common.{◌≡◌, ℕ, ◌+◌, ◌≤◌, List, length, refl, ap, ◌∙◌, sym, subst, arith}
+use Rattle.std.specs.Prelude.{Option, None}
 use Rattle.term_store.specs.Trees.{Keeps}
 use Rattle.map_replay.specs.declared.step.Step.{Step}
 use Rattle.map_replay.specs.declared.state.Entry.{Entry as Row}
-use Rattle.map_replay.specs.declared.change.Made.{Made}
 use Rattle.map_replay.specs.declared.change.Change.{Change}
 use Rattle.map_replay.specs.declared.change.Ready.{Ready}
-use Rattle.map_replay.specs.State.{Entry, State, live_count}
+use Rattle.map_replay.specs.State.{Entry, live_count}
 use Rattle.map_replay.specs.After.{entries_nodes, state_limit, replaced}
 use Rattle.map_replay.specs.Seen.{Trees, Seen, IsSound, AllStored, state_of, entries_in}
 use Rattle.map_replay.specs.Changes.{IsChange, IsReady, changed, ready_state, present, made_entries, AreLive}

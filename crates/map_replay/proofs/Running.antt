@@ -1,5 +1,5 @@
 -- Steps that are carried out one after another.
-use Rattle.std.proofs.Common.{◌≡◌, ℕ, zero, suc, ◌+◌, ◌-◌, ◌<◌, ◌≤◌, List, [], ◌∷◌, ◌++◌, length, get_or, take, drop, refl, sym, ◌∙◌, ap, arith}
+use Rattle.std.proofs.Common.{◌≡◌, ℕ, zero, suc, ◌+◌, ◌<◌, ◌≤◌, List, [], ◌∷◌, ◌++◌, length, get_or, take, drop, refl, sym, ◌∙◌, ap, arith}
 use Rattle.std.specs.Prelude.{Result, Ok, Err}
 use Rattle.map_replay.specs.declared.step.Step.{Step}
 use Rattle.map_replay.specs.declared.refusal.Refusal.{Refusal}
@@ -54,3 +54,36 @@ take_more (x ∷ steps) (suc i) step h e =
 pub run_so_far : (s t u : State) (steps : List Step) (i : ℕ) (step : Step) → i < length steps → step ≡ get_or steps i step
     → run s (take i steps) ≡ Ok t → after t step ≡ Ok u → run s (take (i + 1) steps) ≡ Ok u
 run_so_far s t u steps i step h e r a = ap (λ xs. run_from 1 s xs) (take_more steps i step h e) ∙ run_push 1 s t u (take i steps) step r a
+
+-- ---- a loop over the steps
+
+-- from s, the first i steps led to t, and what is left leads where all of them do
+pub record IsSoFar (s t : State) (steps : List Step) (i : ℕ) : Type 0 where
+  pub rest : run_from (i + 1) t (drop i steps) ≡ run s steps
+  pub so_far : run s (take i steps) ≡ Ok t
+
+pub begin_so_far : (s : State) (steps : List Step) → IsSoFar s s steps 0
+begin_so_far s steps = record { rest = refl; so_far = refl }
+
+pub more_so_far : (s t u : State) (steps : List Step) (i : ℕ) (step : Step) → IsSoFar s t steps i → i < length steps → step ≡ get_or steps i step → after t step ≡ Ok u → IsSoFar s u steps (i + 1)
+more_so_far s t u steps i step f h e a =
+    let k : suc (i + 1) ≡ i + 1 + 1 = omega arith in
+    record {
+      rest = ap (λ n. run_from n u (drop (i + 1) steps)) (sym k) ∙ (sym (run_next (i + 1) t u steps i step h e a) ∙ f.rest);
+      so_far = run_so_far s t u steps i step h e f.so_far a;
+    }
+
+pub end_so_far : (s t : State) (steps : List Step) (i : ℕ) → IsSoFar s t steps i → length steps ≤ i → run s steps ≡ Ok t
+end_so_far s t steps i f h = sym f.rest ∙ run_end (i + 1) t steps i h
+
+pub refused_so_far : (s t : State) (steps : List Step) (i : ℕ) (step : Step) (r : Refusal) → IsSoFar s t steps i → i < length steps → step ≡ get_or steps i step → after t step ≡ Err r → run s steps ≡ Err (i + 1, r)
+refused_so_far s t steps i step r f h e a = sym f.rest ∙ run_refused (i + 1) t r steps i step h e a
+
+-- within the list any default serves
+same_element : (steps : List Step) (i : ℕ) (d e : Step) → i < length steps → get_or steps i d ≡ get_or steps i e
+same_element [] i d e h = absurd (omega arith)
+same_element (x ∷ steps) zero d e h = refl
+same_element (x ∷ steps) (suc i) d e h = same_element steps i d e (omega arith)
+
+pub more_so_far_at : (s t u : State) (steps : List Step) (i : ℕ) (d : Step) → IsSoFar s t steps i → i < length steps → after t (get_or steps i d) ≡ Ok u → IsSoFar s u steps (i + 1)
+more_so_far_at s t u steps i d f h a = more_so_far s t u steps i (get_or steps i d) f h (same_element steps i d (get_or steps i d) h) a

@@ -1,13 +1,13 @@
 -- What holds of every state that a script reaches, so that its program can be read again.
-use Rattle.std.proofs.Common.{◌≡◌, ℕ, zero, suc, ◌+◌, ◌-◌, ◌<◌, ◌≤◌, List, [], ◌∷◌, ◌++◌, length, refl, sym, ◌∙◌, ap, subst, arith, Bool, true, false}
+use Rattle.std.proofs.Common.{◌≡◌, ℕ, zero, suc, ◌+◌, ◌-◌, ◌≤◌, List, [], ◌∷◌, ◌++◌, sym, ◌∙◌, ap, subst, arith, Bool, true, false}
 use Rattle.std.specs.Prelude.{Option, Some, None, All, if◌then◌else◌, Ok}
 use Rattle.clp_model.specs.Clauses.{Clause}
-use Rattle.clp_model.specs.Canonical.{clause_size, canonical_form, IsCanonical}
+use Rattle.clp_model.specs.Canonical.{clause_size}
 use Rattle.clp_syntax.specs.Load.{sizes_of}
 use Rattle.clp_meaning.specs.Laws.{without_atom}
 use Rattle.clp_meaning.proofs.Canonical.{new_clause_is_canonical}
 use Rattle.map_replay.specs.State.{Entry, State, live_clauses, live_count}
-use Rattle.map_replay.specs.After.{changed_at, dead_entry, entries_nodes, run}
+use Rattle.map_replay.specs.After.{changed_at, dead_entry, run}
 use Rattle.map_replay.specs.declared.step.Step.{Step}
 use Rattle.map_replay.specs.Law.{HasCanonicalClauses}
 use Rattle.map_replay.proofs.Merged.{Merges}

@@ -1,5 +1,5 @@
 -- What an accepted script keeps.
-use Rattle.std.specs.Prelude.{◌≡◌, ◌↔◌, ℕ, List, Option, Some, All, Ok}
+use Rattle.std.specs.Prelude.{◌≡◌, ◌↔◌, List, All, Ok}
 use Rattle.clp_model.specs.Values.{GroundAtom}
 use Rattle.clp_model.specs.Proof.{Provable}
 use Rattle.clp_model.specs.Canonical.{IsCanonical}

@@ -3,7 +3,7 @@ use Rattle.std.specs.Prelude.{◌≡◌, ◌⊎◌, ℕ, ◌-◌, ◌≤◌, Lis
 use Rattle.clp_tokens.specs.declared.fault.Fault.{Fault}
 use Rattle.clp_model.specs.declared.limit.Limit.{Limit}
 use Rattle.clp_model.specs.declared.clause.SourceClause.{SourceClause}
-use Rattle.clp_model.specs.Clauses.{Clause, of_source}
+use Rattle.clp_model.specs.Clauses.{of_source}
 use Rattle.clp_syntax.specs.Grammar.{program}
 use Rattle.clp_syntax.specs.Load.{Program, load}
 use Rattle.clp_syntax.specs.Print.{clause_text, program_text}

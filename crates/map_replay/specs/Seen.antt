@@ -1,5 +1,5 @@
 -- What contracts see of a state and of a change, and what it stands for.
-use Rattle.std.specs.Prelude.{ℕ, ◌+◌, ◌<◌, ◌≤◌, ◌≡◌, Bool, true, List, [], ◌∷◌, map, length, Option, Some, None, option_map, IsSome}
+use Rattle.std.specs.Prelude.{ℕ, ◌+◌, ◌≤◌, ◌≡◌, List, [], ◌∷◌, map, length, Option, Some, None, option_map}
 use Rattle.clp_model.specs.declared.tree.Tree.{Tree}
 use Rattle.clp_model.specs.declared.tree.Variable.{Variable}
 use Rattle.clp_model.specs.declared.predicate.Pred.{Pred}
@@ -8,7 +8,7 @@ use Rattle.clause_core.specs.declared.clause.Clause.{Clause as Kept}
 use Rattle.clause_core.specs.Stored.{clause_in, IsStored}
 use Rattle.map_replay.specs.declared.step.Step.{Step}
 use Rattle.map_replay.specs.declared.state.Entry.{Entry as Row}
-use Rattle.map_replay.specs.State.{Entry, State, entry_of, if_live, live_count}
+use Rattle.map_replay.specs.State.{Entry, State, live_count}
 
 -- a store is seen as its trees
 abbrev pub Trees : Type 0

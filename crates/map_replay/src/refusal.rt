@@ -82,9 +82,8 @@ fn push_fields(refusal: &Refusal, into: &mut String) -> Result<(), NoMemory>
     ensures { OnOk result (string_bytes into.new ≡ string_bytes into.old ++ refusal_fields refusal.now) }
 {
     match refusal {
-        Refusal::NoClause(number)
-        | Refusal::NoAtom(number)
-        | Refusal::RepeatedPosition(number) => push_number(*number, into),
+        Refusal::NoClause(number) | Refusal::NoAtom(number) | Refusal::RepeatedPosition(number) =>
+            push_number(*number, into),
         Refusal::NotEqualAtoms(first, second) => {
             push_number(*first, into)?;
             push_number(*second, into)

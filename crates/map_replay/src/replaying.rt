@@ -50,7 +50,9 @@ pub fn open_program(alloc: Global, program: &[u8]) -> Result<State, ReplayFault>
     };
     let loaded = match load(alloc, source.as_slice()) {
         Ok(loaded) => loaded,
-        Err(LoadFault::TooLarge(limit)) => return Err(ReplayFault::Load(LoadFault::TooLarge(limit))),
+        Err(LoadFault::TooLarge(limit)) => return Err(ReplayFault::Load(LoadFault::TooLarge(
+            limit,
+        ))),
         Err(LoadFault::NoMemory) => return Err(ReplayFault::NoMemory),
     };
     match start(alloc, loaded) {

@@ -216,7 +216,12 @@ impl State {
         requires { IsReady self.old ready }
         ensures { state_of self.new ≡ ready_state self.old ready }
     {
-        let Ready { dead, mut entries, nodes, step } = ready;
+        let Ready {
+            dead,
+            mut entries,
+            nodes,
+            step,
+        } = ready;
         kill_all(&mut self.entries, dead.as_slice());
         self.live = self.live + entries.len() as u32 - dead.len() as u32;
         self.nodes += nodes;
@@ -244,10 +249,7 @@ fn loaded(alloc: Global, clause: Option<Clause>) -> Option<Entry>
     })
 }
 
-fn load_all(
-    alloc: Global,
-    clauses: Vec<Option<Clause>>,
-) -> Result<Vec<Option<Entry>>, AllocError>
+fn load_all(alloc: Global, clauses: Vec<Option<Clause>>) -> Result<Vec<Option<Entry>>, AllocError>
     ensures { IfOk result (λ entries. entries.items ≡ map loaded_row clauses.items) }
 {
     clauses

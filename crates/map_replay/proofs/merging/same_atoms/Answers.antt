@@ -1,6 +1,5 @@
-use Rattle.std.proofs.Common.{◌≡◌, sym, ap, ◌∙◌, ◌-◌, ◌<◌, subst, List, ℕ, arith, get_or, length}
-use Rattle.std.specs.Prelude.{slice_index_or}
-use Rattle.clp_model.specs.declared.tree.Tree.{Tree, Var}
+use Rattle.std.proofs.Common.{sym, ap, ◌∙◌, ◌-◌, ◌<◌, List, ℕ, arith, get_or, length}
+use Rattle.clp_model.specs.declared.tree.Tree.{Tree}
 use Rattle.clp_model.specs.Trees.{mapped}
 use Rattle.term_store.specs.Trees.{tree_at}
 use Rattle.clause_core.specs.Stored.{number_of, atoms_at}

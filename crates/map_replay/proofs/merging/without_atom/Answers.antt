@@ -1,4 +1,4 @@
-use Rattle.std.proofs.Common.{◌≡◌, sym, ap, ◌∙◌, subst, List, ℕ}
+use Rattle.std.proofs.Common.{sym, ap, ◌∙◌, subst, List, ℕ}
 use Rattle.std.specs.Prelude.{remove}
 use Rattle.clp_model.specs.declared.sort.Sort.{Sort}
 use Rattle.term_store.specs.Trees.{AreIn, HaveTrees, trees_at}

@@ -1,10 +1,10 @@
-use Rattle.std.proofs.Common.{refl, ap, ◌∙◌, ◌-◌, List, length, arith, vec_len, Option}
+use Rattle.std.proofs.Common.{refl, ap, ◌∙◌, ◌-◌, List, arith, vec_len, Option}
 use Rattle.std.specs.Prelude.{vec_capacity}
 use Rattle.clause_core.specs.declared.clause.Clause.{Clause}
 use Rattle.map_replay.specs.Rows.{count_of}
 use Rattle.map_replay.specs.State.{total_nodes}
 use Rattle.map_replay.specs.Seen.{Seen, clauses_in}
-use Rattle.map_replay.proofs.Loading.{IsBegun, begun_state, begun_sound}
+use Rattle.map_replay.proofs.Loading.{begun_state, begun_sound}
 use Rattle.map_replay.proofs.state.State.begin.Goals as goal
 
 pub invariant_of-result : goal.invariant_of-result

@@ -1,12 +1,10 @@
-use Rattle.std.proofs.Common.{◌≡◌, refl, ap, sym, ◌∙◌, ◌+◌, ◌-◌, ◌++◌, ◌∷◌, [], subst, List, ℕ, arith, length, vec_len}
-use Rattle.std.specs.Prelude.{Option, is_ok, vec_capacity, if◌then◌else◌}
-use Rattle.map_replay.specs.declared.state.Entry.{Entry}
-use Rattle.map_replay.specs.declared.step.Step.{Step}
-use Rattle.map_replay.specs.Seen.{Seen, AllStored}
+use Rattle.std.proofs.Common.{refl, ap, sym, ◌∙◌, ◌+◌, ◌-◌, ◌++◌, ◌∷◌, [], subst, List, ℕ, arith, vec_len}
+use Rattle.std.specs.Prelude.{is_ok, vec_capacity, if◌then◌else◌}
+use Rattle.map_replay.specs.Seen.{Seen}
 use Rattle.map_replay.specs.Changes.{IsReady, ready_state}
 use Rattle.map_replay.specs.Rows.{AllIds, rows_killed}
 use Rattle.map_replay.specs.Inside.{seen_of}
-use Rattle.map_replay.proofs.Committing.{IsCommitted, committed_state, committed_sound, counts, ids_ready}
+use Rattle.map_replay.proofs.Committing.{committed_state, committed_sound, counts, ids_ready}
 use Rattle.map_replay.proofs.state.State.commit.Goals as goal
 
 pub kill_all-requires : goal.kill_all-requires

@@ -1,10 +1,9 @@
-use Rattle.std.proofs.Common.{arith, ap, sym, ◌∙◌, subst, ◌≡◌, ◌≤◌, ◌<◌, ◌+◌, length, List, ℕ}
+use Rattle.std.proofs.Common.{arith, ap, sym, ◌∙◌, ◌≡◌, length, List}
 use Rattle.map_replay.specs.Seen.{Seen, IsSound, state_of}
-use Rattle.map_replay.specs.State.{State, live_count}
-use Rattle.map_replay.specs.Changes.{IsChange, changed, AllMade}
+use Rattle.map_replay.specs.State.{live_count}
+use Rattle.map_replay.specs.Changes.{changed}
 use Rattle.map_replay.specs.Rows.{nodes_of_made}
 use Rattle.map_replay.specs.declared.change.Made.{Made}
-use Rattle.map_replay.specs.declared.change.Change.{Change}
 use Rattle.map_replay.proofs.Counting.{live_changed, nodes_changed, few_dead, past_clauses, past_nodes, past_none}
 use Rattle.map_replay.proofs.state.State.limit_past.Goals as goal
 

@@ -1,15 +1,15 @@
-use Rattle.std.proofs.Common.{◌≡◌, ◌≤◌, refl, ap, sym, ◌∙◌, ◌+◌, ◌-◌, ◌++◌, ◌∷◌, [], subst, List, ℕ, arith, length, vec_len}
+use Rattle.std.proofs.Common.{◌≡◌, refl, ap, sym, ◌∙◌, ◌+◌, ◌-◌, subst, List, ℕ, arith, length, vec_len}
 use Rattle.std.specs.Prelude.{vec_capacity}
 use Rattle.map_replay.specs.declared.change.Made.{Made}
 use Rattle.map_replay.specs.declared.change.Ready.{Ready}
 use Rattle.map_replay.specs.declared.step.Step.{Step}
-use Rattle.map_replay.specs.Seen.{Seen, AllStored, state_of}
+use Rattle.map_replay.specs.Seen.{Seen, state_of}
 use Rattle.map_replay.specs.State.{State}
 use Rattle.map_replay.specs.After.{state_limit}
-use Rattle.map_replay.specs.Changes.{IsChange, IsReady, ready_state, changed}
+use Rattle.map_replay.specs.Changes.{IsChange, changed}
 use Rattle.map_replay.specs.Rows.{nodes_of_made, AreMade}
 use Rattle.map_replay.specs.Inside.{seen_of}
-use Rattle.map_replay.proofs.Reserving.{few_made, IsGrown, IsReserved, grown, grown_sound, reserved_ready, reserved_state}
+use Rattle.map_replay.proofs.Reserving.{few_made, grown, grown_sound, reserved_ready, reserved_state}
 use Rattle.map_replay.proofs.state.State.reserve.Goals as goal
 
 pub made_nodes-nodes-requires-clause-few : goal.made_nodes-nodes-requires-clause-few
