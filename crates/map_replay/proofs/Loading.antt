@@ -1,0 +1,61 @@
+-- The state of a loaded program.
+use Rattle.std.proofs.Common.{◌≡◌, suc, ◌≤◌, List, [], ◌∷◌, length, refl, ap, ◌∙◌, sym, subst, arith, map}
+use Rattle.std.specs.Prelude.{Option, Some, None, option_map}
+use Rattle.clp_model.specs.declared.predicate.Pred.{Pred}
+use Rattle.clause_core.specs.declared.clause.Clause.{Clause as Kept}
+use Rattle.clause_core.specs.Stored.{clause_in}
+use Rattle.map_replay.specs.declared.step.Step.{Step}
+use Rattle.map_replay.specs.declared.state.Entry.{Entry as Row}
+use Rattle.map_replay.specs.State.{is_live, clauses_where, loaded_entry, start_state, total_nodes}
+use Rattle.map_replay.specs.Seen.{Trees, Seen, IsSound, AllStored, AllClausesStored, state_of, entries_in, clauses_in}
+use Rattle.map_replay.specs.Rows.{loaded_row, count_of}
+
+in_loaded : (store : Trees) (cs : List (Option Kept)) → entries_in store (map loaded_row cs) ≡ map (option_map loaded_entry) (clauses_in store cs)
+in_loaded store [] = refl
+in_loaded store (None ∷ cs) = ap (λ es. None ∷ es) (in_loaded store cs)
+in_loaded store (Some c ∷ cs) = ap (λ es. Some (loaded_entry (clause_in store c)) ∷ es) (in_loaded store cs)
+
+stored_loaded : (store : Trees) (cs : List (Option Kept)) → AllClausesStored store cs → AllStored store (map loaded_row cs)
+stored_loaded store [] s = tt
+stored_loaded store (None ∷ cs) s = stored_loaded store cs s
+stored_loaded store (Some c ∷ cs) s = (s.0, stored_loaded store cs s.1)
+
+live_loaded : (store : Trees) (cs : List (Option Kept)) → length (clauses_where is_live (entries_in store (map loaded_row cs))) ≡ count_of cs
+live_loaded store [] = refl
+live_loaded store (None ∷ cs) = live_loaded store cs
+live_loaded store (Some c ∷ cs) = ap suc (live_loaded store cs)
+
+length_loaded : (cs : List (Option Kept)) → length (map loaded_row cs) ≡ length cs
+length_loaded [] = refl
+length_loaded (c ∷ cs) = ap suc (length_loaded cs)
+
+-- the parts of a state that has just begun
+pub record IsBegun (store : Trees) (cs : List (Option Kept)) (preds : List Pred) (seen : Seen) : Type 0 where
+  pub store_is : seen.store ≡ store
+  pub entries : seen.entries ≡ map loaded_row cs
+  pub initials : seen.initials ≡ preds
+  pub history : seen.history ≡ []
+  pub live : seen.live ≡ count_of cs
+  pub nodes : seen.nodes ≡ total_nodes (clauses_in store cs)
+
+module _ (store : Trees) (cs : List (Option Kept)) (preds : List Pred) (seen : Seen) (is : IsBegun store cs preds seen) where
+  begun_entries : entries_in seen.store seen.entries ≡ map (option_map loaded_entry) (clauses_in store cs)
+  begun_entries = ap (λ st. entries_in st seen.entries) is.store_is ∙ ap (entries_in store) is.entries ∙ in_loaded store cs
+
+  pub begun_state : state_of seen ≡ start_state (clauses_in store cs) preds
+  begun_state = let a = begun_entries in let b = is.initials in let d = is.history in let e = is.nodes in cc
+
+  pub begun_sound : AllClausesStored store cs → length cs ≤ 4096 → count_of cs ≤ 4096 → total_nodes (clauses_in store cs) ≤ 8388608 → IsSound seen
+  begun_sound stored few count nodes =
+      let P : List (Option Row) → Type 0 = AllStored seen.store in
+      let Q : Trees → Type 0 = λ st. AllStored st (map loaded_row cs) in
+      let lives = ap (λ es. length (clauses_where is_live es)) (ap (λ st. entries_in st seen.entries) is.store_is ∙ ap (entries_in store) is.entries) ∙ live_loaded store cs in
+      let long = ap (λ (xs : List (Option Row)). length xs) is.entries ∙ length_loaded cs in
+      record {
+        stored = subst P (sym is.entries) (subst Q (sym is.store_is) (stored_loaded store cs stored));
+        live_is = is.live ∙ sym lives;
+        few_live = omega (arith, is.live);
+        few_nodes = omega (arith, is.nodes);
+        few_steps = omega (arith, ap (λ (xs : List Step). length xs) is.history);
+        few_ids = omega arith;
+      }

@@ -1,0 +1,116 @@
+-- The test whether two atoms of a clause are equal.
+use Rattle.std.proofs.Common.{◌≡◌, ℕ, zero, suc, ◌<◌, Bool, true, false, ◌&&◌, List, [], ◌∷◌, length, get_or, refl, ap, ◌∙◌, sym, subst, arith, All, nat_eq}
+use Rattle.std.specs.Prelude.{IsTrue, ◌↔◌, slice_index_or}
+use Rattle.std.specs.List.{AllByRecursion}
+use Rattle.std.specs.Str.{bytes_eq}
+use Rattle.std.proofs.lemmas.Bool.{eqb-true}
+use Rattle.std.proofs.lemmas.Bool.Decides.{nat_tests}
+use Rattle.std.proofs.lemmas.Slice.Eq.{bytes_eq-Decides}
+use Rattle.std.proofs.lemmas.List.Elements.{All-contains, All-from_recursion}
+use Rattle.clp_model.specs.declared.sort.Sort.{Sort}
+use Rattle.clp_model.specs.declared.tree.Variable.{Variable}
+use Rattle.clp_model.specs.declared.tree.Tree.{Tree, Var, App, App', Row_of-Tree, end_of-Tree, more_of-Tree, items-the_row-Tree}
+use Rattle.clp_model.specs.Trees.{mapped, variables, variables_in}
+use Rattle.clp_model.specs.Clauses.{sort_in}
+use Rattle.clp_model.proofs.Trees.{out_app}
+use Rattle.clp_meaning.proofs.Membership.{Among, first, next, from_among, among_front, among_back}
+use Rattle.clp_meaning.proofs.Trees.{mapped_twice}
+use Rattle.term_store.specs.Trees.{tree_at, trees_at, AreIn}
+use Rattle.clause_core.specs.Stored.{number_of, atoms_at, HasSort}
+use Rattle.clause_core.proofs.RenamedTrees.{mapped_same}
+use Rattle.map_replay.specs.SameTree.{same_tree, same_trees}
+
+both : (a b : Bool) → (a && b) ≡ true → (a ≡ true) × (b ≡ true)
+both true b h = (refl, h)
+both false b h = cc
+
+mutual
+  unfolding same_tree
+
+  pub same_is : (t u : Tree ℕ) → same_tree t u ≡ true → t ≡ u
+  same_is (Var n) (Var m) h = ap Var (eqb-true n m h)
+  same_is (App' f shape xs) (App' g shape' ys) h =
+      let p = both (bytes_eq f g) (same_trees xs ys) h in
+      sym (out_app f shape xs) ∙ ap (App f) (same_all_is _ xs _ ys p.1) ∙ ap (λ n. App n (items-the_row-Tree ℕ _ ys)) ((bytes_eq-Decides f g).0 p.0) ∙ out_app g shape' ys
+  same_is (Var n) (App' g shape' ys) h = cc
+  same_is (App' f shape xs) (Var m) h = cc
+
+  same_all_is : (m : _) (xs : Row_of-Tree ℕ m) (n : _) (ys : Row_of-Tree ℕ n) → same_trees xs ys ≡ true → items-the_row-Tree ℕ m xs ≡ items-the_row-Tree ℕ n ys
+  same_all_is m end_of-Tree n end_of-Tree h = refl
+  same_all_is m (more_of-Tree t ts) n (more_of-Tree u us) h =
+      let p = both (same_tree t u) (same_trees ts us) h in
+      let a = same_is t u p.0 in
+      let b = same_all_is _ ts _ us p.1 in
+      cc
+  same_all_is m end_of-Tree n (more_of-Tree u us) h = cc
+  same_all_is m (more_of-Tree t ts) n end_of-Tree h = cc
+
+mutual
+  unfolding same_tree
+
+  same_self : (t : Tree ℕ) → same_tree t t ≡ true
+  same_self (Var n) = let e : nat_eq n n ≡ true = grind (arith, nat_tests) in e
+  same_self (App' f shape xs) = let e = (bytes_eq-Decides f f).1 refl in let h = same_all_self xs in rw (e, h) refl
+
+  same_all_self : {m : _} (ts : Row_of-Tree ℕ m) → same_trees ts ts ≡ true
+  same_all_self end_of-Tree = refl
+  same_all_self (more_of-Tree t ts) = let a = same_self t in let b = same_all_self ts in rw (a, b) refl
+
+-- the variable of this number and its sort
+abbrev sorted_variable : List Sort → ℕ → Variable
+sorted_variable sorts n = record { number = n; sort = sort_in sorts n }
+
+has_itself : (sorts : List Sort) (v : Variable) → HasSort sorts v → sorted_variable sorts v.number ≡ v
+has_itself sorts v h = let f : Sort → Variable = λ s. record { number = v.number; sort = s } in ap f h.sort
+
+-- a tree whose variables have their sorts is known by its numbers
+numbers_tell : (sorts : List Sort) (t : Tree Variable) → All (HasSort sorts) (variables t) → mapped (sorted_variable sorts) (mapped number_of t) ≡ t
+numbers_tell sorts t h =
+    mapped_twice number_of (sorted_variable sorts) (λ v. v) t (λ v among. has_itself sorts v (All-contains (HasSort sorts) (variables t) v h (from_among among))) ∙ mapped_same t
+
+same_numbers : (sorts : List Sort) (t u : Tree Variable) → All (HasSort sorts) (variables t) → All (HasSort sorts) (variables u) → mapped number_of t ≡ mapped number_of u → t ≡ u
+same_numbers sorts t u h k e = sym (numbers_tell sorts t h) ∙ ap (mapped (sorted_variable sorts)) e ∙ numbers_tell sorts u k
+
+-- the test on numbered trees tells whether the trees are equal
+decided : (r s : Bool) (A : Type 0) → (IsTrue r ↔ A) → (A → s ≡ true) → (s ≡ true → A) → r ≡ s
+decided true s A h f g = sym (f (h.0 refl))
+decided false true A h f g = h.1 (g refl)
+decided false false A h f g = refl
+
+pub same_decided : (sorts : List Sort) (t u : Tree Variable) (r : Bool) → All (HasSort sorts) (variables t) → All (HasSort sorts) (variables u) → (IsTrue r ↔ (t ≡ u)) → r ≡ same_tree (mapped number_of t) (mapped number_of u)
+same_decided sorts t u r h k d =
+    decided r (same_tree (mapped number_of t) (mapped number_of u)) (t ≡ u) d
+    (λ e. ap (λ x. same_tree (mapped number_of t) (mapped number_of x)) (sym e) ∙ same_self (mapped number_of t))
+    (λ e. same_numbers sorts t u h k (same_is (mapped number_of t) (mapped number_of u) e))
+
+-- ---- the atoms of a clause
+pub length_atoms : (store : List (Tree Variable)) (terms : List ℕ) → length (atoms_at store terms) ≡ length terms
+length_atoms store [] = refl
+length_atoms store (t ∷ ts) = ap suc (length_atoms store ts)
+
+pub atom_at_place : (store : List (Tree Variable)) (terms : List ℕ) (i t : ℕ) → i < length terms → t ≡ get_or terms i t → slice_index_or (atoms_at store terms) i (Var 0) ≡ mapped number_of (tree_at store t)
+atom_at_place store [] i t h e = absurd (omega arith)
+atom_at_place store (u ∷ us) zero t h e = ap (λ x. mapped number_of (tree_at store x)) (sym e)
+atom_at_place store (u ∷ us) (suc i) t h e = atom_at_place store us i t (omega arith) e
+
+pub term_in : (store : List (Tree Variable)) (terms : List ℕ) (i t : ℕ) → AreIn store terms → i < length terms → t ≡ get_or terms i t → t < length store
+term_in store [] i t a h e = absurd (omega arith)
+term_in store (u ∷ us) zero t a h e = let P : ℕ → Type 0 = λ x. x < length store in subst P (sym e) a.0
+term_in store (u ∷ us) (suc i) t a h e = term_in store us i t a.1 (omega arith) e
+
+-- the variables of one term are among those of all
+among_all : (store : List (Tree Variable)) (terms : List ℕ) (i t : ℕ) (v : Variable) → i < length terms → t ≡ get_or terms i t → Among v (variables (tree_at store t)) → Among v (variables_in (trees_at store terms))
+among_all store [] i t v h e a = absurd (omega arith)
+among_all store (u ∷ us) zero t v h e a =
+    let P : ℕ → Type 0 = λ x. Among v (variables (tree_at store x)) in
+    among_front v (variables (tree_at store u)) (variables_in (trees_at store us)) (subst P e a)
+among_all store (u ∷ us) (suc i) t v h e a = among_back v (variables (tree_at store u)) (variables_in (trees_at store us)) (among_all store us i t v (omega arith) e a)
+
+all_by : {A : Type 0} (P : A → Type 0) (xs : List A) → ((x : A) → Among x xs → P x) → AllByRecursion P xs
+all_by P [] h = tt
+all_by P (x ∷ xs) h = (h x first, all_by P xs (λ y a. h y (next a)))
+
+pub term_sorted : (sorts : List Sort) (store : List (Tree Variable)) (head : ℕ) (terms : List ℕ) (i t : ℕ) → All (HasSort sorts) (variables_in (trees_at store (head ∷ terms))) → i < length terms → t ≡ get_or terms i t
+    → All (HasSort sorts) (variables (tree_at store t))
+term_sorted sorts store head terms i t h k e = All-from_recursion (HasSort sorts) (variables (tree_at store t)) (all_by (HasSort sorts) (variables (tree_at store t))
+    (λ v a. All-contains (HasSort sorts) (variables_in (trees_at store (head ∷ terms))) v h (from_among (among_back v (variables (tree_at store head)) (variables_in (trees_at store terms)) (among_all store terms i t v k e a)))))

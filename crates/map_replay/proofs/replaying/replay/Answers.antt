@@ -1,0 +1,8 @@
+use Rattle.std.proofs.Common.{ap, ◌∙◌}
+use Rattle.map_replay.specs.Replay.{then_scripted}
+use Rattle.map_replay.proofs.Headline.{keeps_provability}
+use Rattle.map_replay.proofs.replaying.replay.Goals as goal
+
+pub returns-clause-headline : goal.returns-clause-headline
+returns-clause-headline c =
+    keeps_provability _ _ _ (ap (then_scripted c.args.script.now) c.in_ok-state.ensures.opens ∙ c.in_ok-run_script.ensures.runs)

@@ -1,0 +1,17 @@
+-- The parts of a state as its fields have them.
+use Rattle.std.specs.Prelude.{◌-◌, vec_len, vec_capacity}
+use Rattle.map_replay.specs.declared.state.State.TheInside.{Inside}
+use Rattle.map_replay.specs.Seen.{Seen}
+
+abbrev pub seen_of : Inside → Seen
+seen_of s =
+    record {
+      store = s.store;
+      entries = s.entries.items;
+      initials = s.initials;
+      history = s.history.items;
+      live = s.live;
+      nodes = s.nodes;
+      room = vec_capacity s.entries - vec_len s.entries;
+      history_room = vec_capacity s.history - vec_len s.history;
+    }

@@ -1,0 +1,15 @@
+pub mod SameTree
+pub mod State
+pub mod After
+pub mod Texts
+pub mod Seen
+pub mod Inside
+pub mod Faults
+pub mod SeenCode
+pub mod Changes
+pub mod Rows
+pub mod Law
+pub mod Script
+pub mod ScriptText
+pub mod Replay
+pub mod Headline

@@ -1,0 +1,28 @@
+ghost use Rattle.std.specs.Prelude.{◌≡◌, ◌⊎◌, ◌++◌, ◌∷◌, [], Ok, Err, OnOk, OnErr, IfOk, IfErr};
+ghost use Rattle.map_replay.specs.declared.refusal.Refusal.TheVariants.{NoMemory};
+ghost use Rattle.map_replay.specs.After.{after};
+ghost use Rattle.map_replay.specs.Seen.{state_of};
+
+use crate::merging::merge;
+use crate::refusal::Refusal;
+use crate::state::State;
+use crate::step::Step;
+use clp_model::Limit;
+
+const MAX_STEPS: u32 = 100_000;
+
+/// One step. Answers the filled step, as it stands last in the history then, or the first broken
+/// condition, and then the state is as before.
+pub fn apply(state: &mut State, step: &Step) -> Result<Step, Refusal>
+    ensures accepted { OnOk result (after (state_of state.old) step.now ≡ Ok (state_of state.new)) }
+    ensures filled { IfOk result (λ filled. (state_of state.new).steps ≡ (state_of state.old).steps ++ filled ∷ []) }
+    ensures refused { IfErr result (λ e. (e ≡ Refusal.NoMemory) ⊎ (after (state_of state.old) step.now ≡ Err e)) }
+    ensures unchanged { OnErr result (state_of state.new ≡ state_of state.old) }
+{
+    if state.steps() >= MAX_STEPS {
+        return Err(Refusal::TooLarge(Limit::Steps));
+    }
+    match *step {
+        Step::Merge { id, first, second } => merge(state, id, first, second),
+    }
+}
