@@ -1,10 +1,10 @@
--- Bytes that a sink takes piece by piece.
+-- Bytes that are taken piece by piece.
 use Rattle.std.proofs.Common.{◌≡◌, ℕ, ◌+◌, ◌-◌, ◌++◌, ◌≤◌, List, length, take, drop, refl, arith, subst, sym, ap, ◌∙◌, append_assoc, length-drop}
 use Rattle.std.specs.Prelude.{Option, Some, None}
 use Rattle.std.specs.Io.KnownBytes.{append_known}
 use Rattle.map_main.specs.Outside.{TakesPrefix}
 use Rattle.std.proofs.Math.Seq.{take-add}
-use Rattle.std.proofs.lemmas.List.{take_rest as rest_whole, take-append-drop}
+use Rattle.std.proofs.lemmas.List.{take_rest as rest_whole, take-append-drop, take_at, length-take-le, drop-drop}
 
 pub take_twice : (bytes : List ℕ) (at n : ℕ) → take at bytes ++ take n (drop at bytes) ≡ take (at + n) bytes
 take_twice bytes at n = sym (take-add at n bytes)
@@ -28,3 +28,10 @@ took_piece known before now bytes at n e f = took_more known before now bytes at
 
 pub within_piece : (bytes : List ℕ) (at n : ℕ) → at ≤ length bytes → n ≤ length (take (length bytes - at) (drop at bytes)) → at + n ≤ length bytes
 within_piece bytes at n w h = let e : n ≤ length (drop at bytes) = rw (rest_whole bytes at) at h in omega (arith, length-drop at bytes)
+
+-- what a read put at the front of a buffer, and then what is left, is what was left before
+pub read_first : (left copied behind bytes : List ℕ) (place n : ℕ) → copied ≡ take n left → left ≡ drop place bytes → n ≤ length left → drop place bytes ≡ take n (copied ++ behind) ++ drop (place + n) bytes
+read_first left copied behind bytes place n e f h =
+    let one : take n (copied ++ behind) ≡ take n left = rw e (take_at (take n left) behind n (length-take-le n left h)) in
+    let two : drop (place + n) bytes ≡ drop n left = rw f (sym (drop-drop n place bytes)) in
+    cc (take-append-drop n left)

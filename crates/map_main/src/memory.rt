@@ -1,8 +1,8 @@
 // The outside in memory: a shelf, a source and a sink that tell everything, and fail at chosen calls.
-ghost use Rattle.std.specs.Prelude.{◌≡◌, ◌<◌, false, [], Some, drop, string_bytes};
+ghost use Rattle.std.specs.Prelude.{◌≡◌, ◌≢◌, ◌<◌, ◌≤◌, ◌++◌, ◌↔◌, ◌⊎◌, ℕ, List, true, false, [], Some, None, Ok, Err, IsTrue, IfOk, OnOk, OnErr, length, take, drop, min, string_bytes, vec_len};
 ghost use Rattle.std.specs.Option.{option_copied};
-ghost use Rattle.map_main.specs.Outside.{file_of};
-ghost use Rattle.map_main.specs.Memory.{files_of};
+ghost use Rattle.map_main.specs.Outside.{file_of, tells_end};
+ghost use Rattle.map_main.specs.Memory.{files_of, lists, fails_next, raised};
 
 use super::outside::{Loading, Shelf, ShelfFault, Sink, SinkFault, Source, SourceFault};
 
@@ -48,11 +48,24 @@ impl Shelf for MemShelf {
 
     ghost failed = { λ s. string_bytes s.failed };
 
-    fn load(&mut self, name: &str, into: &mut Vec<u8>, most: usize) -> Result<Loading, ShelfFault> {
+    // It fails only at the listed calls and where no file has the name.
+    fn load(&mut self, name: &str, into: &mut Vec<u8>, most: usize) -> Result<Loading, ShelfFault>
+        requires { into.old.items ≡ [] }
+        ensures fails { result ≡ Err ShelfFault.Failed → (lists self.old.fail.items (raised self.old.calls) ≡ true) ⊎ (file_of (files_of self.old.files.items) name.now ≡ None) }
+        ensures listed { OnOk result (lists self.old.fail.items (raised self.old.calls) ≡ false) }
+        ensures whole { result ≡ Ok Loading.Whole → (vec_len into.new ≤ most) × (file_of (files_of self.old.files.items) name.now ≡ Some into.new.items) }
+        ensures long { result ≡ Ok Loading.TooLong → (bytes : List ℕ) × (file_of (files_of self.old.files.items) name.now ≡ Some bytes) × (most < length bytes) }
+        ensures empty { result ≢ Ok Loading.Whole → into.new.items ≡ [] }
+        ensures counted { result ≡ Err ShelfFault.Failed → (self.new.faults ≡ raised self.old.faults) × (string_bytes self.new.failed ≡ name.now) }
+        ensures quiet { result ≢ Err ShelfFault.Failed → (self.new.faults ≡ self.old.faults) × (string_bytes self.new.failed ≡ string_bytes self.old.failed) }
+        ensures later { self.old.faults ≤ self.new.faults }
+        ensures calls { self.new.calls ≡ raised self.old.calls }
+        ensures stays { (self.new.files.items ≡ self.old.files.items) × (self.new.fail.items ≡ self.old.fail.items) }
+    {
+        self.calls = self.calls.saturating_add(1);
         let Ok(copy) = String::from_str(*self.files.allocator(), name) else {
             return Err(ShelfFault::NoMemory);
         };
-        self.calls = self.calls.saturating_add(1);
         let found = if is_listed(&self.fail, self.calls) {
             None
         } else {
@@ -86,7 +99,9 @@ fn first_file<'a>(files: &'a [(String, Vec<u8>)], name: &str) -> Option<&'a [u8]
 }
 
 /// Whether this call is one of those that fail.
-fn is_listed(fail: &[u32], call: u64) -> bool {
+fn is_listed(fail: &[u32], call: u64) -> bool
+    ensures { result ≡ lists fail.now call }
+{
     fail.iter().any(|number| u64::from(*number) == call)
 }
 
@@ -141,7 +156,23 @@ impl Source for MemSource {
 
     ghost faults = { λ s. s.faults };
 
-    fn read(&mut self, buf: &mut [u8]) -> Result<usize, SourceFault> {
+    // It fails exactly at the listed calls, and otherwise gives all that it may.
+    fn read(&mut self, buf: &mut [u8]) -> Result<usize, SourceFault>
+        requires room { 0 < length buf.old }
+        requires more { self.old.ended ≡ false }
+        ensures fails { (result ≡ Err SourceFault.Failed) ↔ IsTrue (fails_next self.old.most self.old.fail.items self.old.calls) }
+        ensures within { IfOk result (λ n. n ≤ length buf.new) }
+        ensures count { IfOk result (λ n. n ≡ min (min (length (drop self.old.place self.old.bytes.items)) (length buf.old)) self.old.most) }
+        ensures takes { IfOk result (λ n. drop self.old.place self.old.bytes.items ≡ take n buf.new ++ drop self.new.place self.new.bytes.items) }
+        ensures end { IfOk result (λ n. n ≡ 0 → drop self.old.place self.old.bytes.items ≡ []) }
+        ensures told { self.new.ended ≡ tells_end result }
+        ensures err { OnErr result (self.new.place ≡ self.old.place) }
+        ensures counted { OnErr result (self.new.faults ≡ raised self.old.faults) }
+        ensures quiet { OnOk result (self.new.faults ≡ self.old.faults) }
+        ensures later { self.old.faults ≤ self.new.faults }
+        ensures calls { self.new.calls ≡ raised self.old.calls }
+        ensures stays { (self.new.bytes.items ≡ self.old.bytes.items) × (self.new.most ≡ self.old.most) × (self.new.fail.items ≡ self.old.fail.items) }
+    {
         self.calls = self.calls.saturating_add(1);
         if self.most == 0 || is_listed(&self.fail, self.calls) {
             self.faults = self.faults.saturating_add(1);
@@ -208,7 +239,19 @@ impl Sink for MemSink {
 
     ghost faults = { λ s. s.faults };
 
-    fn write(&mut self, piece: &[u8]) -> Result<usize, SinkFault> {
+    // It fails exactly at the listed calls, and otherwise takes all that it may.
+    fn write(&mut self, piece: &[u8]) -> Result<usize, SinkFault>
+        requires { 0 < length piece.now }
+        ensures fails { (result ≡ Err SinkFault.Failed) ↔ IsTrue (fails_next self.old.most self.old.fail.items self.old.calls) }
+        ensures count { IfOk result (λ n. (0 < n) × (n ≡ min (length piece.now) self.old.most)) }
+        ensures takes { IfOk result (λ n. self.new.taken.items ≡ self.old.taken.items ++ take n piece.now) }
+        ensures err { OnErr result (self.new.taken.items ≡ self.old.taken.items) }
+        ensures counted { result ≡ Err SinkFault.Failed → self.new.faults ≡ raised self.old.faults }
+        ensures quiet { result ≢ Err SinkFault.Failed → self.new.faults ≡ self.old.faults }
+        ensures later { self.old.faults ≤ self.new.faults }
+        ensures calls { self.new.calls ≡ raised self.old.calls }
+        ensures stays { (self.new.most ≡ self.old.most) × (self.new.fail.items ≡ self.old.fail.items) }
+    {
         self.calls = self.calls.saturating_add(1);
         if self.most == 0 || is_listed(&self.fail, self.calls) {
             self.faults = self.faults.saturating_add(1);
