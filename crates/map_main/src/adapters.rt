@@ -1,5 +1,8 @@
 // The outside over real files, standard input and standard output. It tells no content.
-ghost use Rattle.std.specs.Prelude.{◌≡◌, ◌≢◌, ◌≤◌, false, [], None, Ok, string_bytes, vec_len};
+ghost use Rattle.std.specs.Prelude.{◌≡◌, ◌≢◌, ◌<◌, ◌≤◌, ◌↔◌, false, [], None, Ok, Err, IfOk, OnOk, OnErr, length, take, string_bytes, vec_len};
+ghost use Rattle.std.specs.IoError.{error_kind};
+ghost use Rattle.std.specs.Io.KnownBytes.{Appends, Consumes, IsAtEnd, Keeps};
+ghost use Rattle.map_main.specs.Outside.{Rose, tells_end};
 
 use super::outside::{Loading, Shelf, ShelfFault, Sink, SinkFault, Source, SourceFault};
 use std::fs;
@@ -76,7 +79,9 @@ fn read_file<R: Files>(
 /// Reads to the end, or past `most` bytes.
 fn read_all<F: Read>(file: &mut F, into: &mut Vec<u8>, most: usize) -> Result<Loading, ShelfFault>
     requires { into.old.items ≡ [] }
-    ensures { result ≡ Ok Loading.Whole → vec_len into.new ≤ most }
+    ensures taken { OnOk result (Consumes (F.remaining file.old) (F.remaining file.new) into.new.items) }
+    ensures whole { result ≡ Ok Loading.Whole → (vec_len into.new ≤ most) × IsAtEnd (F.remaining file.new) }
+    ensures long { result ≡ Ok Loading.TooLong → most < vec_len into.new }
 {
     let mut buf = [0u8; 4096];
     while into.len() <= most {
@@ -95,7 +100,9 @@ fn read_all<F: Read>(file: &mut F, into: &mut Vec<u8>, most: usize) -> Result<Lo
 }
 
 /// Want of memory where the system says so, and a fault for all else.
-fn shelf_fault(error: &io::Error) -> ShelfFault {
+fn shelf_fault(error: &io::Error) -> ShelfFault
+    ensures { (result ≡ ShelfFault.NoMemory) ↔ (error_kind error.now ≡ ErrorKind.OutOfMemory) }
+{
     if error.kind() == ErrorKind::OutOfMemory {
         ShelfFault::NoMemory
     } else {
@@ -132,7 +139,19 @@ impl<R: Read> Source for InputSource<R> {
 
     ghost faults = { λ s. s.faults };
 
-    fn read(&mut self, buf: &mut [u8]) -> Result<usize, SourceFault> {
+    // What it gives is what the reader gave.
+    fn read(&mut self, buf: &mut [u8]) -> Result<usize, SourceFault>
+        requires room { 0 < length buf.old }
+        requires more { self.old.ended ≡ false }
+        ensures passes { IfOk result (λ n. Consumes (R.remaining self.old.inner) (R.remaining self.new.inner) (take n buf.new)) }
+        ensures end { IfOk result (λ n. n ≡ 0 → IsAtEnd (R.remaining self.new.inner)) }
+        ensures err { OnErr result (Keeps (R.remaining self.old.inner) (R.remaining self.new.inner)) }
+        ensures count { IfOk result (λ n. n ≤ length buf.new) }
+        ensures told { self.new.ended ≡ tells_end result }
+        ensures cause { OnErr result (Rose self.old.faults self.new.faults) }
+        ensures quiet { OnOk result (self.new.faults ≡ self.old.faults) }
+        ensures later { self.old.faults ≤ self.new.faults }
+    {
         match self.inner.read(buf) {
             Ok(n) => {
                 self.ended = n == 0;
@@ -167,15 +186,23 @@ impl<W: Write> Sink for OutputSink<W> {
 
     ghost faults = { λ s. s.faults };
 
-    fn write(&mut self, piece: &[u8]) -> Result<usize, SinkFault> {
-        let fault = match self.inner.write(piece) {
-            Ok(n) if n > 0 => return Ok(n),
-            Err(error) if error.kind() == ErrorKind::OutOfMemory => SinkFault::NoMemory,
-            _ => SinkFault::Failed,
-        };
-        if fault == SinkFault::Failed {
-            self.faults = self.faults.saturating_add(1);
+    // What it takes the writer took.
+    fn write(&mut self, piece: &[u8]) -> Result<usize, SinkFault>
+        requires { 0 < length piece.now }
+        ensures passes { IfOk result (λ n. Appends (W.contents self.old.inner) (W.contents self.new.inner) (take n piece.now)) }
+        ensures err { OnErr result (Keeps (W.contents self.old.inner) (W.contents self.new.inner)) }
+        ensures count { IfOk result (λ n. (0 < n) × (n ≤ length piece.now)) }
+        ensures cause { result ≡ Err SinkFault.Failed → Rose self.old.faults self.new.faults }
+        ensures quiet { result ≢ Err SinkFault.Failed → self.new.faults ≡ self.old.faults }
+        ensures later { self.old.faults ≤ self.new.faults }
+    {
+        match self.inner.write(piece) {
+            Ok(n) if n > 0 => Ok(n),
+            Err(error) if error.kind() == ErrorKind::OutOfMemory => Err(SinkFault::NoMemory),
+            _ => {
+                self.faults = self.faults.saturating_add(1);
+                Err(SinkFault::Failed)
+            }
         }
-        Err(fault)
     }
 }

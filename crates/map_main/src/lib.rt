@@ -19,3 +19,6 @@ pub use outside::{Loading, Shelf, ShelfFault, Sink, SinkFault, Source, SourceFau
 pub use status::Status;
 pub use words::{NoMemory, Words};
 pub use writing::put;
+
+#[cfg(test)]
+mod tests;

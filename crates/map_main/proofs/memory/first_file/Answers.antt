@@ -1,7 +1,7 @@
-use Rattle.std.proofs.Common.{rules, arith, ◌≡◌, sym, length, get_or, drop, suc, ◌∷◌, ◌∙◌, List, ℕ, string_bytes, Vec, Bool, true, false}
+use Rattle.std.proofs.Common.{◌≡◌, sym, length, get_or, drop, suc, ◌∙◌, List, ℕ, string_bytes, Vec, Bool, true, false}
 use Rattle.std.proofs.Math.Seq.{drop-cons}
-use Rattle.std.proofs.Common.{◌<◌, ◌+◌, add-one, refl, ap, String}
-use Rattle.std.specs.Prelude.{Option, Some, None, cond}
+use Rattle.std.proofs.Common.{◌<◌, add-one, refl, ap, String}
+use Rattle.std.specs.Prelude.{Option, Some, cond}
 use Rattle.std.specs.Global.{Global}
 use Rattle.std.specs.Str.{bytes_eq}
 use Rattle.map_main.specs.Outside.{file_of}

@@ -1,4 +1,4 @@
-use Rattle.std.proofs.Common.{rules, arith, ◌∙◌}
+use Rattle.std.proofs.Common.{rules, ◌∙◌}
 use Rattle.map_main.proofs.Taking.{took_piece, took_some, within_piece}
 use Rattle.map_main.proofs.writing.put.Goals as goal
 

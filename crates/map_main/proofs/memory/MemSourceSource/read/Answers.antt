@@ -1,4 +1,4 @@
-use Rattle.std.proofs.Common.{rules, arith, ◌≤◌, length, Some}
+use Rattle.std.proofs.Common.{rules, arith, ◌≤◌, length}
 use Rattle.map_main.proofs.Taking.{read_first}
 use Rattle.map_main.proofs.memory.MemSourceSource.read.Goals as goal
 
