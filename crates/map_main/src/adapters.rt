@@ -79,8 +79,10 @@ fn read_file<R: Files>(
 /// Reads to the end, or past `most` bytes.
 fn read_all<F: Read>(file: &mut F, into: &mut Vec<u8>, most: usize) -> Result<Loading, ShelfFault>
     requires { into.old.items ≡ [] }
-    ensures taken { OnOk result (Consumes (F.remaining file.old) (F.remaining file.new) into.new.items) }
-    ensures whole { result ≡ Ok Loading.Whole → (vec_len into.new ≤ most) × IsAtEnd (F.remaining file.new) }
+    ensures taken { OnOk result
+        (Consumes (F.remaining file.old) (F.remaining file.new) into.new.items) }
+    ensures whole { result ≡ Ok Loading.Whole →
+        (vec_len into.new ≤ most) × IsAtEnd (F.remaining file.new) }
     ensures long { result ≡ Ok Loading.TooLong → most < vec_len into.new }
 {
     let mut buf = [0u8; 4096];
@@ -143,7 +145,8 @@ impl<R: Read> Source for InputSource<R> {
     fn read(&mut self, buf: &mut [u8]) -> Result<usize, SourceFault>
         requires room { 0 < length buf.old }
         requires more { self.old.ended ≡ false }
-        ensures passes { IfOk result (λ n. Consumes (R.remaining self.old.inner) (R.remaining self.new.inner) (take n buf.new)) }
+        ensures passes { IfOk result (λ n.
+            Consumes (R.remaining self.old.inner) (R.remaining self.new.inner) (take n buf.new)) }
         ensures end { IfOk result (λ n. n ≡ 0 → IsAtEnd (R.remaining self.new.inner)) }
         ensures err { OnErr result (Keeps (R.remaining self.old.inner) (R.remaining self.new.inner)) }
         ensures count { IfOk result (λ n. n ≤ length buf.new) }
@@ -189,7 +192,8 @@ impl<W: Write> Sink for OutputSink<W> {
     // What it takes the writer took.
     fn write(&mut self, piece: &[u8]) -> Result<usize, SinkFault>
         requires { 0 < length piece.now }
-        ensures passes { IfOk result (λ n. Appends (W.contents self.old.inner) (W.contents self.new.inner) (take n piece.now)) }
+        ensures passes { IfOk result (λ n.
+            Appends (W.contents self.old.inner) (W.contents self.new.inner) (take n piece.now)) }
         ensures err { OnErr result (Keeps (W.contents self.old.inner) (W.contents self.new.inner)) }
         ensures count { IfOk result (λ n. (0 < n) × (n ≤ length piece.now)) }
         ensures cause { result ≡ Err SinkFault.Failed → Rose self.old.faults self.new.faults }

@@ -51,16 +51,24 @@ impl Shelf for MemShelf {
     // It fails only at the listed calls and where no file has the name.
     fn load(&mut self, name: &str, into: &mut Vec<u8>, most: usize) -> Result<Loading, ShelfFault>
         requires { into.old.items ≡ [] }
-        ensures fails { result ≡ Err ShelfFault.Failed → (lists self.old.fail.items (raised self.old.calls) ≡ true) ⊎ (file_of (files_of self.old.files.items) name.now ≡ None) }
+        ensures fails { result ≡ Err ShelfFault.Failed →
+            (lists self.old.fail.items (raised self.old.calls) ≡ true)
+            ⊎ (file_of (files_of self.old.files.items) name.now ≡ None) }
         ensures listed { OnOk result (lists self.old.fail.items (raised self.old.calls) ≡ false) }
-        ensures whole { result ≡ Ok Loading.Whole → (vec_len into.new ≤ most) × (file_of (files_of self.old.files.items) name.now ≡ Some into.new.items) }
-        ensures long { result ≡ Ok Loading.TooLong → (bytes : List ℕ) × (file_of (files_of self.old.files.items) name.now ≡ Some bytes) × (most < length bytes) }
+        ensures whole { result ≡ Ok Loading.Whole → (vec_len into.new ≤ most)
+            × (file_of (files_of self.old.files.items) name.now ≡ Some into.new.items) }
+        ensures long { result ≡ Ok Loading.TooLong → (bytes : List ℕ)
+            × (file_of (files_of self.old.files.items) name.now ≡ Some bytes)
+            × (most < length bytes) }
         ensures empty { result ≢ Ok Loading.Whole → into.new.items ≡ [] }
-        ensures counted { result ≡ Err ShelfFault.Failed → (self.new.faults ≡ raised self.old.faults) × (string_bytes self.new.failed ≡ name.now) }
-        ensures quiet { result ≢ Err ShelfFault.Failed → (self.new.faults ≡ self.old.faults) × (string_bytes self.new.failed ≡ string_bytes self.old.failed) }
+        ensures counted { result ≡ Err ShelfFault.Failed →
+            (self.new.faults ≡ raised self.old.faults) × (string_bytes self.new.failed ≡ name.now) }
+        ensures quiet { result ≢ Err ShelfFault.Failed → (self.new.faults ≡ self.old.faults)
+            × (string_bytes self.new.failed ≡ string_bytes self.old.failed) }
         ensures later { self.old.faults ≤ self.new.faults }
         ensures calls { self.new.calls ≡ raised self.old.calls }
-        ensures stays { (self.new.files.items ≡ self.old.files.items) × (self.new.fail.items ≡ self.old.fail.items) }
+        ensures stays { (self.new.files.items ≡ self.old.files.items)
+            × (self.new.fail.items ≡ self.old.fail.items) }
     {
         self.calls = self.calls.saturating_add(1);
         let Ok(copy) = String::from_str(*self.files.allocator(), name) else {
@@ -160,10 +168,13 @@ impl Source for MemSource {
     fn read(&mut self, buf: &mut [u8]) -> Result<usize, SourceFault>
         requires room { 0 < length buf.old }
         requires more { self.old.ended ≡ false }
-        ensures fails { (result ≡ Err SourceFault.Failed) ↔ IsTrue (fails_next self.old.most self.old.fail.items self.old.calls) }
+        ensures fails { (result ≡ Err SourceFault.Failed)
+            ↔ IsTrue (fails_next self.old.most self.old.fail.items self.old.calls) }
         ensures within { IfOk result (λ n. n ≤ length buf.new) }
-        ensures count { IfOk result (λ n. n ≡ min (min (length (drop self.old.place self.old.bytes.items)) (length buf.old)) self.old.most) }
-        ensures takes { IfOk result (λ n. drop self.old.place self.old.bytes.items ≡ take n buf.new ++ drop self.new.place self.new.bytes.items) }
+        ensures count { IfOk result (λ n. n ≡ min (min
+            (length (drop self.old.place self.old.bytes.items)) (length buf.old)) self.old.most) }
+        ensures takes { IfOk result (λ n. drop self.old.place self.old.bytes.items
+            ≡ take n buf.new ++ drop self.new.place self.new.bytes.items) }
         ensures end { IfOk result (λ n. n ≡ 0 → drop self.old.place self.old.bytes.items ≡ []) }
         ensures told { self.new.ended ≡ tells_end result }
         ensures err { OnErr result (self.new.place ≡ self.old.place) }
@@ -171,7 +182,8 @@ impl Source for MemSource {
         ensures quiet { OnOk result (self.new.faults ≡ self.old.faults) }
         ensures later { self.old.faults ≤ self.new.faults }
         ensures calls { self.new.calls ≡ raised self.old.calls }
-        ensures stays { (self.new.bytes.items ≡ self.old.bytes.items) × (self.new.most ≡ self.old.most) × (self.new.fail.items ≡ self.old.fail.items) }
+        ensures stays { (self.new.bytes.items ≡ self.old.bytes.items)
+            × (self.new.most ≡ self.old.most) × (self.new.fail.items ≡ self.old.fail.items) }
     {
         self.calls = self.calls.saturating_add(1);
         if self.most == 0 || is_listed(&self.fail, self.calls) {
@@ -242,15 +254,18 @@ impl Sink for MemSink {
     // It fails exactly at the listed calls, and otherwise takes all that it may.
     fn write(&mut self, piece: &[u8]) -> Result<usize, SinkFault>
         requires { 0 < length piece.now }
-        ensures fails { (result ≡ Err SinkFault.Failed) ↔ IsTrue (fails_next self.old.most self.old.fail.items self.old.calls) }
+        ensures fails { (result ≡ Err SinkFault.Failed)
+            ↔ IsTrue (fails_next self.old.most self.old.fail.items self.old.calls) }
         ensures count { IfOk result (λ n. (0 < n) × (n ≡ min (length piece.now) self.old.most)) }
-        ensures takes { IfOk result (λ n. self.new.taken.items ≡ self.old.taken.items ++ take n piece.now) }
+        ensures takes { IfOk result (λ n.
+            self.new.taken.items ≡ self.old.taken.items ++ take n piece.now) }
         ensures err { OnErr result (self.new.taken.items ≡ self.old.taken.items) }
         ensures counted { result ≡ Err SinkFault.Failed → self.new.faults ≡ raised self.old.faults }
         ensures quiet { result ≢ Err SinkFault.Failed → self.new.faults ≡ self.old.faults }
         ensures later { self.old.faults ≤ self.new.faults }
         ensures calls { self.new.calls ≡ raised self.old.calls }
-        ensures stays { (self.new.most ≡ self.old.most) × (self.new.fail.items ≡ self.old.fail.items) }
+        ensures stays { (self.new.most ≡ self.old.most)
+            × (self.new.fail.items ≡ self.old.fail.items) }
     {
         self.calls = self.calls.saturating_add(1);
         if self.most == 0 || is_listed(&self.fail, self.calls) {

@@ -50,12 +50,15 @@ pub trait Shelf {
     /// Loads the file of this name into `into`, which is empty, where it has at most `most` bytes.
     fn load(&mut self, name: &str, into: &mut Vec<u8>, most: usize) -> Result<Loading, ShelfFault>
         requires { into.old.items ≡ [] }
-        ensures whole { result ≡ Ok Loading.Whole → (vec_len into.new ≤ most) × Tells (files self.old) name.now into.new.items }
+        ensures whole { result ≡ Ok Loading.Whole →
+            (vec_len into.new ≤ most) × Tells (files self.old) name.now into.new.items }
         ensures long { result ≡ Ok Loading.TooLong → TellsLonger (files self.old) name.now most }
         ensures empty { result ≢ Ok Loading.Whole → into.new.items ≡ [] }
         ensures keeps { files self.new ≡ files self.old }
-        ensures cause { result ≡ Err ShelfFault.Failed → Rose (faults self.old) (faults self.new) × (failed self.new ≡ name.now) }
-        ensures quiet { result ≢ Err ShelfFault.Failed → (faults self.new ≡ faults self.old) × (failed self.new ≡ failed self.old) }
+        ensures cause { result ≡ Err ShelfFault.Failed →
+            Rose (faults self.old) (faults self.new) × (failed self.new ≡ name.now) }
+        ensures quiet { result ≢ Err ShelfFault.Failed →
+            (faults self.new ≡ faults self.old) × (failed self.new ≡ failed self.old) }
         ensures later { faults self.old ≤ faults self.new };
 }
 
@@ -75,7 +78,8 @@ pub trait Source {
         requires room { 0 < length buf.old }
         requires more { ended self.old ≡ false }
         ensures count { IfOk result (λ n. n ≤ length buf.new) }
-        ensures takes { IfOk result (λ n. left self.old ≡ prepend_known (take n buf.new) (left self.new)) }
+        ensures takes { IfOk result (λ n.
+            left self.old ≡ prepend_known (take n buf.new) (left self.new)) }
         ensures end { IfOk result (λ n. n ≡ 0 → NothingLeft (left self.old)) }
         ensures told { ended self.new ≡ tells_end result }
         ensures err { OnErr result (left self.new ≡ left self.old) }
@@ -96,7 +100,8 @@ pub trait Sink {
     fn write(&mut self, piece: &[u8]) -> Result<usize, SinkFault>
         requires { 0 < length piece.now }
         ensures count { IfOk result (λ n. (0 < n) × (n ≤ length piece.now)) }
-        ensures takes { IfOk result (λ n. taken self.new ≡ append_known (taken self.old) (take n piece.now)) }
+        ensures takes { IfOk result (λ n.
+            taken self.new ≡ append_known (taken self.old) (take n piece.now)) }
         ensures err { OnErr result (taken self.new ≡ taken self.old) }
         ensures cause { result ≡ Err SinkFault.Failed → Rose (faults self.old) (faults self.new) }
         ensures quiet { result ≢ Err SinkFault.Failed → faults self.new ≡ faults self.old }
