@@ -6,3 +6,4 @@ pub mod Law
 pub mod Script
 pub mod Replay
 pub mod Headline
+pub mod Seen

@@ -4,7 +4,9 @@
 mod refusal;
 mod replay_fault;
 mod step;
+mod stub;
 
 pub use replay_fault::{LoadFault, ReplayFault};
 pub use refusal::{Refusal, refusal_text};
 pub use step::Step;
+pub use stub::{State, open_program, print_program, run_script};
