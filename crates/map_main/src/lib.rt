@@ -7,8 +7,10 @@
 #![tactic(auto)]
 
 pub mod adapters;
+pub mod command;
 pub mod memory;
 pub mod outside;
+pub mod replaying;
 pub mod status;
 pub mod words;
 pub mod writing;
@@ -17,7 +19,8 @@ pub use adapters::{FileShelf, InputSource, OutputSink};
 pub use memory::{MemShelf, MemSink, MemSource};
 pub use outside::{Loading, Shelf, ShelfFault, Sink, SinkFault, Source, SourceFault};
 pub use status::Status;
-pub use words::{NoMemory, Words};
+pub use term_store::NoMemory;
+pub use words::Words;
 pub use writing::put;
 
 #[cfg(test)]
