@@ -25,50 +25,55 @@ takes_nothing None text = tt
 takes_nothing (Some xs) text = ([], (text, refl), sym (append-nil xs))
 
 module _ (words : List (List ℕ)) (files : Option Files) (shelf shelf' : ℕ) (failed : List ℕ) (before after : Option (List ℕ)) (sink sink' : ℕ) where
-  -- a status that comes with a text came with the right one, and nothing failed
-  pub said : (r : Status) → Ends before after sink sink' words files shelf shelf' failed r
-      → r ≢ status.ShelfFault → r ≢ status.SinkFault → r ≢ status.NoMemory
-      → (text : List ℕ) × LeadsTo words files r text × (after ≡ append_known before text)
-  said _ (answers s text l q _ (whole e f)) a b c = (text, l, e)
-  said _ (answers s text l q _ (sink_failed p f)) a b c = absurd (b refl)
-  said _ (answers s text l q _ (no_memory p f)) a b c = absurd (c refl)
-  said _ (shelf_failed w i e f) a b c = absurd (a refl)
-  said _ (no_memory_before q e f) a b c = absurd (c refl)
+  -- a status that comes with a text came with the right one
+  said : (r s : Status) → Ends before after sink sink' words files shelf shelf' failed r → r ≡ s
+      → s ≢ status.ShelfFault → s ≢ status.SinkFault → s ≢ status.NoMemory
+      → (text : List ℕ) × LeadsTo words files s text × (after ≡ append_known before text)
+  said _ s (answers t text l q _ (whole e f)) x a b c = (text, subst (λ r. LeadsTo words files r text) x l, e)
+  said _ s (answers t text l q _ (sink_failed p f)) x a b c = absurd (b (sym x))
+  said _ s (answers t text l q _ (no_memory p f)) x a b c = absurd (c (sym x))
+  said _ s (shelf_failed w i e f) x a b c = absurd (a (sym x))
+  said _ s (no_memory_before q e f) x a b c = absurd (c (sym x))
 
   pub ok : (r : Status) → Ends before after sink sink' words files shelf shelf' failed r → r ≡ status.Ok
       → (end : State) × IsAccepted words files end × (after ≡ append_known before (output end))
-  ok r h e =
-      let s = said r h (λ x. cc) (λ x. cc) (λ x. cc) in
-      let l = subst (λ x. LeadsTo words files x s.0) e s.1 in
-      (l.0, l.1, s.2 ∙ ap (append_known before) l.2)
+  ok r h x = ok_text (said r status.Ok h x (λ y. cc) (λ y. cc) (λ y. cc))
+    where
+      ok_text : (text : List ℕ) × LeadsTo words files status.Ok text × (after ≡ append_known before text)
+          → (end : State) × IsAccepted words files end × (after ≡ append_known before (output end))
+      ok_text (text, (end, a, t), e) = (end, a, e ∙ ap (append_known before) t)
 
   pub refused : (r : Status) → Ends before after sink sink' words files shelf shelf' failed r → r ≡ status.Refused
       → (number : ℕ) × ((refusal : Refusal) × IsRefused words files number refusal × (after ≡ append_known before (refused_line number refusal)))
-  refused r h e =
-      let s = said r h (λ x. cc) (λ x. cc) (λ x. cc) in
-      let l = subst (λ x. LeadsTo words files x s.0) e s.1 in
-      (l.0, (l.1.0, l.1.1, s.2 ∙ ap (append_known before) l.1.2))
+  refused r h x = refused_text (said r status.Refused h x (λ y. cc) (λ y. cc) (λ y. cc))
+    where
+      refused_text : (text : List ℕ) × LeadsTo words files status.Refused text × (after ≡ append_known before text)
+          → (number : ℕ) × ((refusal : Refusal) × IsRefused words files number refusal × (after ≡ append_known before (refused_line number refusal)))
+      refused_text (text, (n, (r, i, t)), e) = (n, (r, i, e ∙ ap (append_known before) t))
 
   pub usage : (r : Status) → Ends before after sink sink' words files shelf shelf' failed r → r ≡ status.Usage
       → (command_of words ≡ None) × (after ≡ append_known before usage_line)
-  usage r h e =
-      let s = said r h (λ x. cc) (λ x. cc) (λ x. cc) in
-      let l = subst (λ x. LeadsTo words files x s.0) e s.1 in
-      (l.0, s.2 ∙ ap (append_known before) l.1)
+  usage r h x = usage_text (said r status.Usage h x (λ y. cc) (λ y. cc) (λ y. cc))
+    where
+      usage_text : (text : List ℕ) × LeadsTo words files status.Usage text × (after ≡ append_known before text)
+          → (command_of words ≡ None) × (after ≡ append_known before usage_line)
+      usage_text (text, (n, t), e) = (n, e ∙ ap (append_known before) t)
 
   pub bad_program : (r : Status) → Ends before after sink sink' words files shelf shelf' failed r → r ≡ status.BadProgram
       → HasBadProgram words files × (after ≡ append_known before bad_program_line)
-  bad_program r h e =
-      let s = said r h (λ x. cc) (λ x. cc) (λ x. cc) in
-      let l = subst (λ x. LeadsTo words files x s.0) e s.1 in
-      (l.0, s.2 ∙ ap (append_known before) l.1)
+  bad_program r h x = bad_program_text (said r status.BadProgram h x (λ y. cc) (λ y. cc) (λ y. cc))
+    where
+      bad_program_text : (text : List ℕ) × LeadsTo words files status.BadProgram text × (after ≡ append_known before text)
+          → HasBadProgram words files × (after ≡ append_known before bad_program_line)
+      bad_program_text (text, (b, t), e) = (b, e ∙ ap (append_known before) t)
 
   pub bad_script : (r : Status) → Ends before after sink sink' words files shelf shelf' failed r → r ≡ status.BadScript
       → HasBadScript words files × (after ≡ append_known before bad_script_line)
-  bad_script r h e =
-      let s = said r h (λ x. cc) (λ x. cc) (λ x. cc) in
-      let l = subst (λ x. LeadsTo words files x s.0) e s.1 in
-      (l.0, s.2 ∙ ap (append_known before) l.1)
+  bad_script r h x = bad_script_text (said r status.BadScript h x (λ y. cc) (λ y. cc) (λ y. cc))
+    where
+      bad_script_text : (text : List ℕ) × LeadsTo words files status.BadScript text × (after ≡ append_known before text)
+          → HasBadScript words files × (after ≡ append_known before bad_script_line)
+      bad_script_text (text, (b, t), e) = (b, e ∙ ap (append_known before) t)
 
   pub shelf_fault : (r : Status) → Ends before after sink sink' words files shelf shelf' failed r → r ≡ status.ShelfFault
       → Rose shelf shelf' × IsAwaited words files failed × (after ≡ before)

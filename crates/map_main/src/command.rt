@@ -13,7 +13,7 @@ pub struct Command<'a> {
 
 impl Words {
     /// The command that the words mean, if they mean one.
-    pub fn command(&self) -> Option<Command<'_>>
+    pub(crate) fn command(&self) -> Option<Command<'_>>
         ensures means { IfSome result (λ c.
             command_of self.now ≡ Some (record { program = c.program.now; script = c.script.now })) }
         ensures none { IfNone result (command_of self.now ≡ None) }

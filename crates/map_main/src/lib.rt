@@ -7,11 +7,11 @@
 #![tactic(auto)]
 
 pub mod adapters;
-pub mod command;
+mod command;
 pub mod memory;
 pub mod outside;
-pub mod replaying;
-pub mod run;
+mod replaying;
+mod run;
 pub mod status;
 pub mod words;
 pub mod writing;

@@ -89,6 +89,7 @@ fn run_file<H: Shelf>(
     ensures quiet { OnOk result (H.faults shelf.new ≡ H.faults shelf.old) }
     ensures stops { IfErr result (λ e. NotCarriedOut (H.faults shelf.old) (H.faults shelf.new)
         (H.failed shelf.new) (H.files shelf.old) name.now (state_of state.old) e) }
+    ensures keeps { H.files shelf.new ≡ H.files shelf.old }
 {
     let script = match load_file(alloc, name, MAX_SCRIPT, shelf) {
         Ok(Some(script)) => script,
@@ -110,6 +111,7 @@ pub fn replay_files<H: Shelf>(alloc: Global, words: &Words, shelf: &mut H) -> Re
     ensures quiet { IfOk result (λ s. H.faults shelf.new ≡ H.faults shelf.old) }
     ensures stops { IfErr result (λ e. Stops (H.faults shelf.old) (H.faults shelf.new)
         (H.failed shelf.new) words.now (H.files shelf.old) e) }
+    ensures keeps { H.files shelf.new ≡ H.files shelf.old }
 {
     let Some(command) = words.command() else {
         return Err(Stop::Usage);

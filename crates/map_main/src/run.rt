@@ -5,7 +5,6 @@ ghost use Rattle.map_replay.specs.State.{State as RunState};
 ghost use Rattle.map_replay.specs.Replay.{output};
 ghost use Rattle.map_replay.specs.Seen.{state_of};
 ghost use Rattle.map_replay.proofs.Headline.{ReadsBack};
-ghost use Rattle.map_main.specs.declared.replaying.Stop.{Stop as StopSeen};
 ghost use Rattle.map_main.specs.Outside.{Files, Rose, TakesPrefix};
 ghost use Rattle.map_main.specs.Command.{command_of};
 ghost use Rattle.map_main.specs.Lines.{usage_line, bad_program_line, bad_script_line, refused_line};
@@ -29,7 +28,6 @@ use term_store::NoMemory;
 ///
 /// `replay P S` after the program's name writes the program that the script file S makes of the
 /// program file P, one clause a line.
-#[allow(unused_variables)]
 pub fn map_run<H: Shelf, I: Source, O: Sink>(
     alloc: Global,
     words: &Words,
@@ -64,6 +62,7 @@ pub fn map_run<H: Shelf, I: Source, O: Sink>(
         ⊎ StopsWithin words.now (H.files shelf.old) (O.taken out.old) (O.taken out.new) }
     ensures never { (result ≢ Status.InputFault) × (result ≢ Status.BudgetSpent) }
     ensures unread { input.new ≡ input.old }
+    ensures keeps { H.files shelf.new ≡ H.files shelf.old }
     ensures shelf_quiet { result ≢ Status.ShelfFault → H.faults shelf.new ≡ H.faults shelf.old }
     ensures sink_quiet { result ≢ Status.SinkFault → O.faults out.new ≡ O.faults out.old }
     // Where nothing outside fails, the right answer comes.
@@ -80,8 +79,9 @@ pub fn map_run<H: Shelf, I: Source, O: Sink>(
 
 /// Replays the files of the words and writes the answer.
 fn answer<H: Shelf, O: Sink>(alloc: Global, words: &Words, shelf: &mut H, out: &mut O) -> Status
-    ensures { Ends (O.taken out.old) (O.taken out.new) (O.faults out.old) (O.faults out.new) words.now
+    ensures ends { Ends (O.taken out.old) (O.taken out.new) (O.faults out.old) (O.faults out.new) words.now
         (H.files shelf.old) (H.faults shelf.old) (H.faults shelf.new) (H.failed shelf.new) result }
+    ensures keeps { H.files shelf.new ≡ H.files shelf.old }
 {
     match replay_files(alloc, words, shelf) {
         Ok(state) => write_program(alloc, &state, out),
