@@ -3,9 +3,10 @@
 #![tactic(auto)]
 
 use map_main::{FileShelf, InputSource, NoMemory, OutputSink, Status, Words, map_run};
+use std::env;
 use std::io::{self, ErrorKind};
 use std::process::ExitCode;
-use std::{env, rt::Env};
+use std::rt::Env;
 
 fn main(rt: HostRuntime) -> ExitCode {
     let status = match words(&rt) {

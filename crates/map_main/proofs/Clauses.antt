@@ -12,7 +12,8 @@ use Rattle.map_main.specs.Outside.{Files, Rose, TakesPrefix}
 use Rattle.map_main.specs.Command.{command_of}
 use Rattle.map_main.specs.Lines.{usage_line, bad_program_line, bad_script_line, refused_line}
 use Rattle.map_main.specs.Causes.{IsAccepted, IsRefused, HasBadProgram, HasBadScript, IsAwaited, LeadsTo, StopsWithin}
-use Rattle.map_main.specs.Answers.{right_answer, WritesEquivalent}
+use Rattle.map_main.specs.Answers.{right_answer}
+use Rattle.map_main.specs.Headline.{KeepsProvabilityOnFiles}
 use Rattle.map_main.specs.Answers.Answer.{Writes}
 use Rattle.map_main.specs.Endings.{IsWritten, Ends}
 use Rattle.map_main.specs.Endings.IsWritten.{whole, sink_failed, no_memory}
@@ -164,10 +165,10 @@ right_or_no_memory words told files t r before after (inl e) = inl e
 right_or_no_memory words told files t r before after (inr h) = inr (h.0, rightly words told files t r h.0 h.1, h.2)
 
 -- what was written keeps what is provable, by the law of replay
-pub equivalent : ((p s : List ℕ) (end : State) → replayed p s ≡ Ok end → KeepsProvability p s (output end))
+pub keeps_provability_on_files : ((p s : List ℕ) (end : State) → replayed p s ≡ Ok end → KeepsProvability p s (output end))
     → (words : List (List ℕ)) (told : Option Files) (files : Files) → told ≡ Some files → (known after : Option (List ℕ)) (before : List ℕ) → known ≡ Some before
-    → (end : State) × IsAccepted words told end × (after ≡ append_known known (output end)) → WritesEquivalent words files before after
-equivalent law words told files t known after before k h =
+    → (end : State) × IsAccepted words told end × (after ≡ append_known known (output end)) → KeepsProvabilityOnFiles words files before after
+keeps_provability_on_files law words told files t known after before k h =
     let a = subst (λ f. IsAccepted words f h.0) t h.1 in
     record {
       command = a.command;

@@ -1,10 +1,9 @@
 -- The right answer where the shelf tells its files.
-use Rattle.std.specs.Prelude.{◌≡◌, ℕ, List, ◌++◌, length, nat_lt, if◌then◌else◌, Option, Some, None, Result, Ok, Err}
+use Rattle.std.specs.Prelude.{ℕ, List, length, nat_lt, if◌then◌else◌, Option, Some, None, Result, Ok, Err}
 use Rattle.map_replay.specs.declared.replay_fault.ReplayFault.{ReplayFault}
 use Rattle.map_replay.specs.declared.replay_fault.ReplayFault.TheVariants as fault
 use Rattle.map_replay.specs.State.{State}
 use Rattle.map_replay.specs.Replay.{opened, scripted, output}
-use Rattle.map_replay.specs.Headline.{KeepsProvability}
 use Rattle.map_main.specs.declared.status.Status.{Status}
 use Rattle.map_main.specs.declared.status.Status.TheVariants as status
 use Rattle.map_main.specs.Outside.{Files, file_of}
@@ -47,15 +46,3 @@ on_command files (Some command) = on_program files command (file_of files comman
 
 abbrev pub right_answer : List (List ℕ) → Files → Answer
 right_answer words files = on_command files (command_of words)
-
--- the files that the words name are there, and the text that was written keeps what is provable
-pub record WritesEquivalent (words : List (List ℕ)) (files : Files) (before : List ℕ) (after : Option (List ℕ)) : Type 0 where
-  pub command : Command
-  pub means : command_of words ≡ Some command
-  pub program : List ℕ
-  pub program_is : file_of files command.program ≡ Some program
-  pub script : List ℕ
-  pub script_is : file_of files command.script ≡ Some script
-  pub written : List ℕ
-  pub after_is : after ≡ Some (before ++ written)
-  pub keeps : KeepsProvability program script written

@@ -5,4 +5,5 @@ pub mod Command
 pub mod Lines
 pub mod Causes
 pub mod Answers
+pub mod Headline
 pub mod Endings

@@ -26,4 +26,6 @@ pub use words::Words;
 pub use writing::put;
 
 #[cfg(test)]
+mod run_tests;
+#[cfg(test)]
 mod tests;

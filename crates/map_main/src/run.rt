@@ -1,17 +1,18 @@
 // The top call.
-ghost use Rattle.std.specs.Prelude.{◌≡◌, ◌≢◌, ◌⊎◌, ℕ, List, false, None, Some, ◌++◌, IfOk, IfErr, codes, string_bytes};
+ghost use Rattle.std.specs.Prelude.{◌≡◌, ◌≢◌, ◌⊎◌, ℕ, List, false, None, Some, IfOk, string_bytes};
 ghost use Rattle.std.specs.Io.KnownBytes.{append_known};
 ghost use Rattle.map_replay.specs.State.{State as RunState};
 ghost use Rattle.map_replay.specs.Replay.{output};
 ghost use Rattle.map_replay.specs.Seen.{state_of};
 ghost use Rattle.map_replay.proofs.Headline.{ReadsBack};
-ghost use Rattle.map_main.specs.Outside.{Files, Rose, TakesPrefix};
+ghost use Rattle.map_main.specs.Outside.{Files, Rose};
 ghost use Rattle.map_main.specs.Command.{command_of};
 ghost use Rattle.map_main.specs.Lines.{usage_line, bad_program_line, bad_script_line, refused_line};
-ghost use Rattle.map_main.specs.Causes.{IsAccepted, IsRefused, HasBadProgram, HasBadScript, IsAwaited, LeadsTo, StopsWithin};
-ghost use Rattle.map_main.specs.Answers.{Answer, right_answer, WritesEquivalent};
+ghost use Rattle.map_main.specs.Causes.{IsAccepted, IsRefused, HasBadProgram, HasBadScript, IsAwaited, StopsWithin};
+ghost use Rattle.map_main.specs.Answers.{right_answer};
+ghost use Rattle.map_main.specs.Headline.{KeepsProvabilityOnFiles};
 ghost use Rattle.map_main.specs.Answers.Answer.{Writes};
-ghost use Rattle.map_main.specs.Endings.{IsWritten, Ends, Stops};
+ghost use Rattle.map_main.specs.Endings.{IsWritten, Ends};
 
 use super::outside::{Shelf, Sink, SinkFault, Source};
 use super::replaying::{Stop, replay_files};
@@ -41,7 +42,7 @@ pub fn map_run<H: Shelf, I: Source, O: Sink>(
         × (O.taken out.new ≡ append_known (O.taken out.old) (output end)) }
     ensures headline { ReadsBack → result ≡ Status.Ok → (files : Files) (before : List ℕ)
         → H.files shelf.old ≡ Some files → O.taken out.old ≡ Some before
-        → WritesEquivalent words.now files before (O.taken out.new) }
+        → KeepsProvabilityOnFiles words.now files before (O.taken out.new) }
     // Otherwise it is the one line of the first cause.
     ensures refused { result ≡ Status.Refused → (number : ℕ) × ((refusal : Refusal)
         × IsRefused words.now (H.files shelf.old) number refusal

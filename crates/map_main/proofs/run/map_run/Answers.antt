@@ -1,5 +1,5 @@
 use Rattle.map_replay.proofs.Headline.{keeps_provability}
-use Rattle.map_main.proofs.Clauses.{ok, refused, usage, bad_program, bad_script, shelf_fault, sink_fault, out_of_memory, never, shelf_quiet, sink_quiet, answered, no_command, right_or_no_memory, equivalent}
+use Rattle.map_main.proofs.Clauses.{ok, refused, usage, bad_program, bad_script, shelf_fault, sink_fault, out_of_memory, never, shelf_quiet, sink_quiet, answered, no_command, right_or_no_memory, keeps_provability_on_files}
 use Rattle.map_main.proofs.run.map_run.Goals as goal
 
 pub returns-clause-ok : goal.returns-clause-ok
@@ -7,7 +7,7 @@ returns-clause-ok g c = ok _ _ _ _ _ _ _ _ _ _ c.answer.ensures.ends
 
 pub returns-clause-headline : goal.returns-clause-headline
 returns-clause-headline g c =
-    λ reads_back e files before t k. equivalent (keeps_provability reads_back) _ _ files t _ _ before k (ok _ _ _ _ _ _ _ _ _ _ c.answer.ensures.ends e)
+    λ reads_back e files before t k. keeps_provability_on_files (keeps_provability reads_back) _ _ files t _ _ before k (ok _ _ _ _ _ _ _ _ _ _ c.answer.ensures.ends e)
 
 pub returns-clause-refused : goal.returns-clause-refused
 returns-clause-refused g c = refused _ _ _ _ _ _ _ _ _ _ c.answer.ensures.ends
