@@ -1,5 +1,5 @@
 -- What is said of the top call, from how it ended.
-use Rattle.std.proofs.Common.{◌≡◌, ◌≢◌, ℕ, ◌⊎◌, inl, inr, List, [], ◌++◌, refl, ap, sym, subst, ◌∙◌, append-nil}
+use Rattle.std.proofs.Common.{◌≡◌, ◌≢◌, ℕ, ◌⊎◌, inl, inr, List, [], refl, ap, sym, subst, ◌∙◌, append-nil}
 use Rattle.std.specs.Prelude.{Option, Some, None, Ok}
 use Rattle.std.specs.Io.KnownBytes.{append_known}
 use Rattle.map_replay.specs.State.{State}
@@ -15,7 +15,7 @@ use Rattle.map_main.specs.Causes.{IsAccepted, IsRefused, HasBadProgram, HasBadSc
 use Rattle.map_main.specs.Answers.{right_answer}
 use Rattle.map_main.specs.Headline.{KeepsProvabilityOnFiles}
 use Rattle.map_main.specs.Answers.Answer.{Writes}
-use Rattle.map_main.specs.Endings.{IsWritten, Ends}
+use Rattle.map_main.specs.Endings.{Ends}
 use Rattle.map_main.specs.Endings.IsWritten.{whole, sink_failed, no_memory}
 use Rattle.map_main.specs.Endings.Ends.{answers, shelf_failed, no_memory_before}
 use Rattle.map_main.proofs.Rightly.{right}

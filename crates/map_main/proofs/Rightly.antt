@@ -1,20 +1,18 @@
 -- Where the files are told, what words and files lead to is the right answer.
-use Rattle.std.proofs.Common.{◌≡◌, ℕ, ◌<◌, ◌≤◌, ◌⊎◌, inl, inr, List, length, refl, ap, ◌∙◌, sym}
+use Rattle.std.proofs.Common.{◌≡◌, ℕ, ◌<◌, ◌≤◌, inl, inr, List, length, refl, ap, ◌∙◌, sym}
 use Rattle.std.proofs.lemmas.Bool.{lt-ltb, le-ltb}
-use Rattle.std.specs.Prelude.{Option, Some, None, Result, Ok, Err, nat_lt, true, false, if◌then◌else◌}
-use Rattle.map_replay.specs.declared.refusal.Refusal.{Refusal}
+use Rattle.std.specs.Prelude.{Some, Result, Ok, Err, nat_lt, if◌then◌else◌}
 use Rattle.map_replay.specs.declared.replay_fault.ReplayFault.{ReplayFault}
-use Rattle.map_replay.specs.declared.replay_fault.ReplayFault.TheVariants as fault
 use Rattle.map_replay.specs.State.{State}
-use Rattle.map_replay.specs.Replay.{opened, scripted, then_scripted, replayed, output}
+use Rattle.map_replay.specs.Replay.{opened, scripted, then_scripted, output}
 use Rattle.map_main.specs.declared.status.Status.{Status}
 use Rattle.map_main.specs.declared.status.Status.TheVariants as status
-use Rattle.map_main.specs.Outside.{Files, file_of, TellsLonger}
+use Rattle.map_main.specs.Outside.{Files, file_of}
 use Rattle.map_main.specs.Command.{Command, command_of}
-use Rattle.map_main.specs.Lines.{usage_line, bad_program_line, bad_script_line, refused_line}
-use Rattle.map_main.specs.Causes.{max_program, max_script, Gives, Opens, Refuses, IsAccepted, IsRefused, HasBadProgram, HasBadScript, IsBadProgram, IsBadScript, LeadsTo}
+use Rattle.map_main.specs.Lines.{bad_program_line, bad_script_line}
+use Rattle.map_main.specs.Causes.{max_program, max_script, Gives, Opens, IsAccepted, IsBadProgram, IsBadScript, LeadsTo}
 use Rattle.map_main.specs.Answers.{Answer, on_steps, on_script, on_start, on_program, on_command, right_answer}
-use Rattle.map_main.specs.Answers.Answer.{Writes, Lacks}
+use Rattle.map_main.specs.Answers.Answer.{Writes}
 
 -- ---- a test of a length
 

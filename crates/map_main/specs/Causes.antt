@@ -1,5 +1,5 @@
 -- When each answer comes, as far as the shelf tells its files, and the text that comes with it.
-use Rattle.std.specs.Prelude.{◌≡◌, ℕ, ◌≤◌, ◌⊎◌, List, length, Option, Some, None, Result, Ok, Err}
+use Rattle.std.specs.Prelude.{◌≡◌, ℕ, ◌≤◌, ◌⊎◌, List, length, Option, Some, None, Ok, Err}
 use Rattle.map_replay.specs.declared.refusal.Refusal.{Refusal}
 use Rattle.map_replay.specs.declared.replay_fault.ReplayFault.{ReplayFault}
 use Rattle.map_replay.specs.declared.replay_fault.ReplayFault.TheVariants as fault

@@ -1,5 +1,5 @@
 -- How the parts of a call end, and what is known then.
-use Rattle.std.specs.Prelude.{◌≡◌, ℕ, ◌⊎◌, List, Option, None}
+use Rattle.std.specs.Prelude.{◌≡◌, ℕ, List, Option, None}
 use Rattle.std.specs.Io.KnownBytes.{append_known}
 use Rattle.map_replay.specs.State.{State}
 use Rattle.map_main.specs.declared.status.Status.{Status}
@@ -8,7 +8,7 @@ use Rattle.map_main.specs.declared.replaying.Stop.{Stop}
 use Rattle.map_main.specs.declared.replaying.Stop.TheVariants as stop
 use Rattle.map_main.specs.Outside.{Files, Rose, TakesPrefix}
 use Rattle.map_main.specs.Command.{command_of}
-use Rattle.map_main.specs.Causes.{IsBadProgram, IsBadScript, Opens, Refuses, HasBadProgram, HasBadScript, IsRefused, IsAwaited, LeadsTo, StopsWithin}
+use Rattle.map_main.specs.Causes.{IsBadProgram, IsBadScript, Refuses, HasBadProgram, HasBadScript, IsRefused, IsAwaited, LeadsTo}
 
 -- the count of a shelf's faults before and after, and the name of its last failed load
 module _ (shelf shelf' : ℕ) (failed : List ℕ) where
