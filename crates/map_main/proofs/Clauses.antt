@@ -11,7 +11,7 @@ use Rattle.map_main.specs.declared.status.Status.TheVariants as status
 use Rattle.map_main.specs.Outside.{Files, Rose, TakesPrefix}
 use Rattle.map_main.specs.Command.{command_of}
 use Rattle.map_main.specs.Lines.{usage_line, bad_program_line, bad_script_line, refused_line}
-use Rattle.map_main.specs.Causes.{IsAccepted, IsRefused, HasBadProgram, HasBadScript, IsAwaited, LeadsTo, StopsWithin}
+use Rattle.map_main.specs.Causes.{IsAccepted, IsRefused, HasBadProgram, HasBadScript, IsAwaited, LeadsTo, WritesBeginning}
 use Rattle.map_main.specs.Answers.{right_answer}
 use Rattle.map_main.specs.Headline.{KeepsProvabilityOnFiles}
 use Rattle.map_main.specs.Answers.Answer.{Writes}
@@ -85,7 +85,7 @@ module _ (words : List (List ℕ)) (files : Option Files) (shelf shelf' : ℕ) (
   shelf_fault _ (no_memory_before q e f) x = let no : ⊥ = cc in absurd no
 
   pub sink_fault : (r : Status) → Ends before after sink sink' words files shelf shelf' failed r → r ≡ status.SinkFault
-      → Rose sink sink' × StopsWithin words files before after
+      → Rose sink sink' × WritesBeginning words files before after
   sink_fault _ (answers s text l q _ (whole e f)) x = absurd (subst (λ t. LeadsTo words files t text) x l)
   sink_fault _ (answers s text l q _ (sink_failed p f)) x = (f, (s, (text, l, p)))
   sink_fault _ (answers s text l q _ (no_memory p f)) x = let no : ⊥ = cc in absurd no
@@ -93,7 +93,7 @@ module _ (words : List (List ℕ)) (files : Option Files) (shelf shelf' : ℕ) (
   sink_fault _ (no_memory_before q e f) x = let no : ⊥ = cc in absurd no
 
   pub out_of_memory : (r : Status) → Ends before after sink sink' words files shelf shelf' failed r → r ≡ status.NoMemory
-      → (after ≡ before) ⊎ StopsWithin words files before after
+      → (after ≡ before) ⊎ WritesBeginning words files before after
   out_of_memory _ (answers s text l q _ (whole e f)) x = absurd (subst (λ t. LeadsTo words files t text) x l)
   out_of_memory _ (answers s text l q _ (sink_failed p f)) x = let no : ⊥ = cc in absurd no
   out_of_memory _ (answers s text l q _ (no_memory p f)) x = inr (s, (text, l, p))

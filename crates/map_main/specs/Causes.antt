@@ -110,6 +110,6 @@ pub record IsAwaited (words : List (List ℕ)) (files : Option Files) (name : Li
   pub is : (name ≡ command.program) ⊎ ((name ≡ command.script) × ((start : State) × Opens files command.program start))
 
 -- a beginning of the right text was written, and no more
-abbrev pub StopsWithin : List (List ℕ) → Option Files → Option (List ℕ) → Option (List ℕ) → Type 0
-StopsWithin words files before after =
+abbrev pub WritesBeginning : List (List ℕ) → Option Files → Option (List ℕ) → Option (List ℕ) → Type 0
+WritesBeginning words files before after =
     (s : Status) × ((text : List ℕ) × LeadsTo words files s text × TakesPrefix before after text)

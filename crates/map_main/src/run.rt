@@ -8,7 +8,7 @@ ghost use Rattle.map_replay.proofs.Headline.{ReadsBack};
 ghost use Rattle.map_main.specs.Outside.{Files, Rose};
 ghost use Rattle.map_main.specs.Command.{command_of};
 ghost use Rattle.map_main.specs.Lines.{usage_line, bad_program_line, bad_script_line, refused_line};
-ghost use Rattle.map_main.specs.Causes.{IsAccepted, IsRefused, HasBadProgram, HasBadScript, IsAwaited, StopsWithin};
+ghost use Rattle.map_main.specs.Causes.{IsAccepted, IsRefused, HasBadProgram, HasBadScript, IsAwaited, WritesBeginning};
 ghost use Rattle.map_main.specs.Answers.{right_answer};
 ghost use Rattle.map_main.specs.Headline.{KeepsProvabilityOnFiles};
 ghost use Rattle.map_main.specs.Answers.Answer.{Writes};
@@ -58,9 +58,9 @@ pub fn map_run<H: Shelf, I: Source, O: Sink>(
         × IsAwaited words.now (H.files shelf.old) (H.failed shelf.new)
         × (O.taken out.new ≡ O.taken out.old) }
     ensures sink_fault { result ≡ Status.SinkFault → Rose (O.faults out.old) (O.faults out.new)
-        × StopsWithin words.now (H.files shelf.old) (O.taken out.old) (O.taken out.new) }
+        × WritesBeginning words.now (H.files shelf.old) (O.taken out.old) (O.taken out.new) }
     ensures no_memory { result ≡ Status.NoMemory → (O.taken out.new ≡ O.taken out.old)
-        ⊎ StopsWithin words.now (H.files shelf.old) (O.taken out.old) (O.taken out.new) }
+        ⊎ WritesBeginning words.now (H.files shelf.old) (O.taken out.old) (O.taken out.new) }
     ensures never { (result ≢ Status.InputFault) × (result ≢ Status.BudgetSpent) }
     ensures unread { input.new ≡ input.old }
     ensures keeps { H.files shelf.new ≡ H.files shelf.old }
