@@ -1,11 +1,13 @@
 //! Clauses and programs.
 
-ghost use Rattle.std.specs.Prelude.{[], ◌≡◌, ◌<◌, ◌^◌, ℕ, List, length, IfOk, Ok};
+ghost use Rattle.std.specs.Prelude.{[], ◌≡◌, ◌<◌, ◌≤◌, ◌^◌, ℕ, List, length, map, All, IfOk, Ok};
 ghost use Rattle.clp_tokens.specs.Parsers.{Reads, Gives};
 ghost use Rattle.clp_tokens.specs.Cursor as cursor;
 ghost use Rattle.clp_syntax.specs.Grammar as spec;
 ghost use Rattle.clp_syntax.specs.Input as input;
-ghost use Rattle.clp_syntax.specs.Readable.{AreReadable};
+ghost use Rattle.clp_syntax.specs.Print.{program_text};
+ghost use Rattle.clp_syntax.specs.Readable.{AreReadable, IsPrintable};
+ghost use Rattle.clp_model.specs.Clauses.{Clause as C, of_source};
 ghost use Rattle.clp_model.specs.declared.clause.SourceClause.{SourceClause as S};
 
 use crate::reader::Reader;
@@ -162,4 +164,12 @@ pub fn read_program(alloc: Global, text: &[u8]) -> Result<Items<SourceClause>, T
 /// arguments, variables have their sorts, and brackets and clauses are within their limits.
 pub fn what_is_read_is_readable()
     ensures { (text : List ℕ) (cs : List S) → spec.program text ≡ Ok cs → AreReadable cs }
+{}
+
+/// What is printed of at most 4,096 clauses in canonical form, whose heads and body atoms are applications
+/// of plain names and not `true` without arguments, and whose variables may be any values, is read as these
+/// clauses.
+pub fn printed_clauses_are_read_again()
+    ensures { (cs : List C) → length cs ≤ spec.max_clauses → All IsPrintable cs
+        → (source : List S) × (spec.program (program_text cs) ≡ Ok source) × (map of_source source ≡ cs) }
 {}

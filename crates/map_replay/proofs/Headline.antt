@@ -14,8 +14,9 @@ use Rattle.clp_model.specs.Predicates.{initial_predicates, ground_predicate, pre
 use Rattle.clp_syntax.specs.Grammar.{program}
 use Rattle.clp_syntax.specs.Load.{Program, load}
 use Rattle.clp_syntax.specs.Print.{program_text}
-use Rattle.clp_syntax.specs.Readable.{IsReadable, AreReadable}
+use Rattle.clp_syntax.specs.Readable.{IsReadable, AreReadable, IsPrintable}
 use Rattle.clp_syntax.proofs.Readable.{program_readable}
+use Rattle.clp_syntax.proofs.Programs.{program_again}
 use Rattle.clp_meaning.specs.Laws.{HasNoConstraint}
 use Rattle.clp_meaning.proofs.Canonical.{new_clause_is_canonical}
 use Rattle.map_replay.specs.declared.replay_fault.ReplayFault.{ReplayFault}
@@ -125,37 +126,41 @@ nothing_defined steps a h =
 
 -- ---- the headline
 
--- the program that is written is read as its clauses
-abbrev pub ReadsBack : Type 0
-ReadsBack = (cs : List Clause) → All IsCanonical cs → All IsPlainClause cs → length cs ≤ 4096 → (source : List SourceClause) × (program (program_text cs) ≡ Ok source) × (map of_source source ≡ cs)
+printable : (c : Clause) → IsCanonical c → IsPlainClause c → IsPrintable c
+printable c canonical plain = record { canonical = canonical; sorts = plain.sorts; atoms = plain.atoms }
 
-module _ (reads_back : ReadsBack) where
-  pub keeps_provability : (p s : List ℕ) (t : State) → replayed p s ≡ Ok t → KeepsProvability p s (output t)
-  keeps_provability p s t h =
-      let r = replay_parts p s t h in
-      let readable = program_readable p r.source r.source_is in
-      let l = loading.loaded (map of_source r.source) r.loaded r.loads in
-      let begun = start_state r.loaded.clauses r.loaded.predicates in
-      let live = start_live (map of_source r.source) r.loaded l in
-      let sound = start_sound r.source readable r.loaded l in
-      let end = run_sound begun t r.steps r.runs sound in
-      let back = reads_back (live_clauses t) end.canonical end.plain end.few in
-      let same : (a : GroundAtom) → Provable (map of_source back.0) a ↔ Provable (map of_source r.source) a = λ a.
-          let one = run_keeps_provability begun t r.steps sound.canonical r.runs a in
-          let two = made_proves_the_same (map of_source r.source) l.clauses l.made (sources_none r.source) a in
-          (λ x. two.0 (subst (λ cs. Provable cs a) live (one.0 (subst (λ cs. Provable cs a) back.2 x))),
-           λ x. subst (λ cs. Provable cs a) (sym back.2) (one.1 (subst (λ cs. Provable cs a) (sym live) (two.1 x)))) in
-      let small = end.counted in
-      let limit = end.small in
-      record {
-        source = r.source;
-        source_is = r.source_is;
-        steps = r.steps;
-        steps_are = r.steps_are;
-        result = back.0;
-        result_is = back.1;
-        loaded = record { clauses = map Some (live_clauses t); predicates = initial_predicates (live_clauses t) };
-        loads = ap load back.2 ∙ loaded_again (live_clauses t) end.canonical (omega (arith, small, limit));
-        initial = λ a inside. same a;
-        defined = λ a inside. absurd (nothing_defined r.steps a inside);
-      }
+all_printable : (cs : List Clause) → All IsCanonical cs → All IsPlainClause cs → All IsPrintable cs
+all_printable [] canonical plain = All-nil IsPrintable
+all_printable (c ∷ cs) canonical plain =
+    All-cons IsPrintable c cs (printable c (All-head IsCanonical c cs canonical) (All-head IsPlainClause c cs plain))
+    (all_printable cs (All-tail IsCanonical c cs canonical) (All-tail IsPlainClause c cs plain))
+
+pub keeps_provability : (p s : List ℕ) (t : State) → replayed p s ≡ Ok t → KeepsProvability p s (output t)
+keeps_provability p s t h =
+    let r = replay_parts p s t h in
+    let readable = program_readable p r.source r.source_is in
+    let l = loading.loaded (map of_source r.source) r.loaded r.loads in
+    let begun = start_state r.loaded.clauses r.loaded.predicates in
+    let live = start_live (map of_source r.source) r.loaded l in
+    let sound = start_sound r.source readable r.loaded l in
+    let end = run_sound begun t r.steps r.runs sound in
+    let back = program_again (live_clauses t) end.few (all_printable (live_clauses t) end.canonical end.plain) in
+    let same : (a : GroundAtom) → Provable (map of_source back.0) a ↔ Provable (map of_source r.source) a = λ a.
+        let one = run_keeps_provability begun t r.steps sound.canonical r.runs a in
+        let two = made_proves_the_same (map of_source r.source) l.clauses l.made (sources_none r.source) a in
+        (λ x. two.0 (subst (λ cs. Provable cs a) live (one.0 (subst (λ cs. Provable cs a) back.2 x))),
+         λ x. subst (λ cs. Provable cs a) (sym back.2) (one.1 (subst (λ cs. Provable cs a) (sym live) (two.1 x)))) in
+    let small = end.counted in
+    let limit = end.small in
+    record {
+      source = r.source;
+      source_is = r.source_is;
+      steps = r.steps;
+      steps_are = r.steps_are;
+      result = back.0;
+      result_is = back.1;
+      loaded = record { clauses = map Some (live_clauses t); predicates = initial_predicates (live_clauses t) };
+      loads = ap load back.2 ∙ loaded_again (live_clauses t) end.canonical (omega (arith, small, limit));
+      initial = λ a inside. same a;
+      defined = λ a inside. absurd (nothing_defined r.steps a inside);
+    }

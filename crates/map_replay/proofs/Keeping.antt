@@ -13,7 +13,7 @@ use Rattle.clp_meaning.proofs.Merging.{merge_keeps_provability}
 use Rattle.map_replay.specs.declared.step.Step.{Step}
 use Rattle.map_replay.specs.declared.refusal.Refusal.{Refusal}
 use Rattle.map_replay.specs.State.{Entry, State, live_clauses}
-use Rattle.map_replay.specs.After.{killed_at, after, run, run_from, go_on}
+use Rattle.map_replay.specs.After.{changed_at, dead_entry, after, run, run_from, go_on}
 use Rattle.map_replay.specs.Law.{HasCanonicalClauses, RunKeepsProvability}
 use Rattle.map_replay.proofs.Merged.{Merges, after_merges, ok_same, never_ok}
 use Rattle.map_replay.proofs.Live.{live, still_live, was_live, goes_from, live_append}
@@ -26,7 +26,7 @@ canonical_has_none c h = record { equations = ap (λ (d : Clause). d.equations) 
 -- ---- one merge
 module _ (s t : State) (m : Merges s t) where
   abbrev rest : List (Option Entry)
-  rest = killed_at s.entries (m.id - 1)
+  rest = changed_at dead_entry s.entries (m.id - 1)
 
   last_live : (e : Entry) → e.live ≡ true → e.clause ≡ m.made → live (Some e ∷ []) ≡ m.made ∷ []
   last_live e l c = ap (λ b. if b then e.clause ∷ [] else []) l ∙ ap (λ d. d ∷ []) c

@@ -6,3 +6,5 @@ pub mod Plain
 pub mod Sound
 pub mod Loading
 pub mod Headline
+pub mod Scripts
+pub mod ScriptsPrinted

@@ -3,11 +3,11 @@ use Rattle.std.proofs.Common.{◌≡◌, ℕ, zero, suc, ◌+◌, ◌<◌, List,
 use Rattle.std.specs.Prelude.{Option, Some, None, slice_index_or, if◌then◌else◌}
 use Rattle.clp_model.specs.Clauses.{Clause}
 use Rattle.clp_meaning.proofs.Membership.{Among, first, next, among_front, among_back, among_either}
-use Rattle.map_replay.specs.State.{Entry, clauses_where}
-use Rattle.map_replay.specs.After.{killed_at}
+use Rattle.map_replay.specs.State.{Entry, clauses_where, is_live}
+use Rattle.map_replay.specs.After.{changed_at, dead_entry}
 
 abbrev pub live : List (Option Entry) → List Clause
-live entries = clauses_where (λ e. e.live) entries
+live entries = clauses_where is_live entries
 
 -- a clause put first, where the test says so
 abbrev put : Bool → Clause → List Clause → List Clause
@@ -39,22 +39,22 @@ head_goes x true c xs (next m) = inr m
 head_goes x false c xs m = inr m
 
 -- whatever was live is the clause that goes, or stays
-pub still_live : (x : Clause) (e : Entry) (es : List (Option Entry)) (n : ℕ) → slice_index_or es n None ≡ Some e → Among x (live es) → (x ≡ e.clause) ⊎ Among x (live (killed_at es n))
+pub still_live : (x : Clause) (e : Entry) (es : List (Option Entry)) (n : ℕ) → slice_index_or es n None ≡ Some e → Among x (live es) → (x ≡ e.clause) ⊎ Among x (live (changed_at dead_entry es n))
 still_live x e [] n h m = elim m [ ]
 still_live x e (None ∷ es) zero h m = absurd (not_some e h)
 still_live x e (Some f ∷ es) zero h m =
     elim (head_goes x f.live f.clause (live es) m) [ inl a ↦ inl (a ∙ ap (λ (g : Entry). g.clause) (some_same f e h)) | inr n ↦ inr n ]
 still_live x e (None ∷ es) (suc n) h m = still_live x e es n h m
 still_live x e (Some f ∷ es) (suc n) h m =
-    onward x (x ≡ e.clause) f.live f.clause (live es) (live (killed_at es n)) (still_live x e es n h) m
+    onward x (x ≡ e.clause) f.live f.clause (live es) (live (changed_at dead_entry es n)) (still_live x e es n h) m
 
 -- whatever is still live was live
-pub was_live : (x : Clause) (es : List (Option Entry)) (n : ℕ) → Among x (live (killed_at es n)) → Among x (live es)
+pub was_live : (x : Clause) (es : List (Option Entry)) (n : ℕ) → Among x (live (changed_at dead_entry es n)) → Among x (live es)
 was_live x [] n m = m
 was_live x (None ∷ es) zero m = m
 was_live x (Some f ∷ es) zero m = behind x f.live f.clause (live es) m
 was_live x (None ∷ es) (suc n) m = was_live x es n m
-was_live x (Some f ∷ es) (suc n) m = back x f.live f.clause (live (killed_at es n)) (live es) (was_live x es n) m
+was_live x (Some f ∷ es) (suc n) m = back x f.live f.clause (live (changed_at dead_entry es n)) (live es) (was_live x es n) m
 
 put_live : (c : Clause) (b : Bool) (xs : List Clause) → b ≡ true → Among c (put b c xs)
 put_live c true xs h = first

@@ -13,8 +13,8 @@ use Rattle.map_replay.specs.declared.step.Step.TheVariants.{Merge}
 use Rattle.map_replay.specs.declared.refusal.Refusal.{Refusal}
 use Rattle.map_replay.specs.declared.refusal.Refusal.TheVariants.{NoClause, NoAtom, RepeatedPosition, NotEqualAtoms, TooLarge}
 use Rattle.map_replay.specs.SameTree.{same_tree}
-use Rattle.map_replay.specs.State.{Entry, State, entry_at, live_count}
-use Rattle.map_replay.specs.After.{Draft, Rewriting, new_entry, new_entries, put_first, killed_at, killed, replaced, within_limits, replaced_by, rewritten, if_live, live_at, in_range, same_at, first_broken, merged, unless_broken, merge_of, by_rule, after}
+use Rattle.map_replay.specs.State.{Entry, State, entry_at, live_count, if_live, live_at}
+use Rattle.map_replay.specs.After.{Draft, Rewriting, new_entry, new_entries, put_first, killed, replaced, state_limit, unless_limit, within_limits, replaced_by, rewritten, in_range, same_at, first_broken, merged, unless_broken, merge_of, by_rule, after}
 use Rattle.map_replay.proofs.SameTree.{same_tree_is}
 
 -- a merge in the live entry with this id, and the state after it
@@ -129,7 +129,7 @@ kept_within : (s t : State) → within_limits s ≡ Ok t → (t ≡ s) × (live_
 kept_within s t = by (nat_lt 4096 (live_count s)) refl (nat_lt 8388608 s.nodes) refl
   where
     by : (a : Bool) → nat_lt 4096 (live_count s) ≡ a → (b : Bool) → nat_lt 8388608 s.nodes ≡ b
-        → (if a then Err (TooLarge Clauses) else (if b then Err (TooLarge Nodes) else Ok s)) ≡ Ok t → (t ≡ s) × (live_count s ≤ 4096) × (s.nodes ≤ 8388608)
+        → unless_limit (if a then Some Clauses else (if b then Some Nodes else None)) s ≡ Ok t → (t ≡ s) × (live_count s ≤ 4096) × (s.nodes ≤ 8388608)
     by true ea b eb h = absurd (never_ok (TooLarge Clauses) t h)
     by false ea true eb h = absurd (never_ok (TooLarge Nodes) t h)
     by false ea false eb h = (sym (ok_same s t h), ltb-false _ _ ea, ltb-false _ _ eb)
@@ -137,10 +137,10 @@ kept_within s t = by (nat_lt 4096 (live_count s)) refl (nat_lt 8388608 s.nodes) 
 -- ---- a merge, and a step
 merge_made : (s t : State) (e : Entry) (id i j : ℕ) → slice_index_or s.entries (id - 1) None ≡ Some e → e.live ≡ true → Positions e.clause.body i j
     → (r : Result Clause Limit) → new_clause (without_atom e.clause (j - 1)) ≡ r
-    → replaced_by s (id ∷ []) (Merge id i j) (put_first (new_entry (length s.steps + 1) (merged e id j)) r (Ok [])) ≡ Ok t → Merges s t
+    → replaced_by s (id ∷ []) (Merge id i j) (put_first (new_entry (length s.steps + 1) e.mark (id ∷ [])) r (Ok [])) ≡ Ok t → Merges s t
 merge_made s t e id i j here is_live p (Err l) er h = absurd (never_ok (TooLarge l) t h)
 merge_made s t e id i j here is_live p (Ok d) er h =
-    let entry = new_entry (length s.steps + 1) (merged e id j) d in
+    let entry = new_entry (length s.steps + 1) e.mark (id ∷ []) d in
     let k = kept_within (replaced s (id ∷ []) (entry ∷ []) (Merge id i j)) t h in
     record {
       id = id;

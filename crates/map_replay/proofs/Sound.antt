@@ -6,7 +6,7 @@ use Rattle.clp_model.specs.Canonical.{clause_size, canonical_form, IsCanonical}
 use Rattle.clp_meaning.specs.Laws.{without_atom}
 use Rattle.clp_meaning.proofs.Canonical.{new_clause_is_canonical}
 use Rattle.map_replay.specs.State.{Entry, State, live_clauses, live_count}
-use Rattle.map_replay.specs.After.{killed_at, entries_nodes, run}
+use Rattle.map_replay.specs.After.{changed_at, dead_entry, entries_nodes, run}
 use Rattle.map_replay.specs.declared.step.Step.{Step}
 use Rattle.map_replay.specs.Law.{HasCanonicalClauses}
 use Rattle.map_replay.proofs.Merged.{Merges}
@@ -32,12 +32,12 @@ size_behind true c xs = omega arith
 size_behind false c xs = omega arith
 
 -- where an entry goes, no more is live
-fewer_live : (es : List (Option Entry)) (n : ℕ) → sizes_of (live (killed_at es n)) ≤ sizes_of (live es)
+fewer_live : (es : List (Option Entry)) (n : ℕ) → sizes_of (live (changed_at dead_entry es n)) ≤ sizes_of (live es)
 fewer_live [] n = omega arith
 fewer_live (None ∷ es) zero = omega arith
 fewer_live (Some f ∷ es) zero = size_behind f.live f.clause (live es)
 fewer_live (None ∷ es) (suc n) = fewer_live es n
-fewer_live (Some f ∷ es) (suc n) = size_put f.live f.clause (live (killed_at es n)) (live es) (fewer_live es n)
+fewer_live (Some f ∷ es) (suc n) = size_put f.live f.clause (live (changed_at dead_entry es n)) (live es) (fewer_live es n)
 
 -- the live clauses are canonical, plain and few, and the nodes count them all
 pub record IsSound (s : State) : Type 0 where
@@ -61,7 +61,7 @@ sound_kept s t m h =
   where
     more : (s t : State) (m : Merges s t) → sizes_of (live_clauses s) ≤ s.nodes → sizes_of (live_clauses t) ≤ t.nodes
     more s t m h =
-        let a : sizes_of (live_clauses t) ≡ sizes_of (live (killed_at s.entries (m.id - 1))) + sizes_of (m.made ∷ []) = ap sizes_of (live_after s t m) ∙ sizes_append (live (killed_at s.entries (m.id - 1))) (m.made ∷ []) in
+        let a : sizes_of (live_clauses t) ≡ sizes_of (live (changed_at dead_entry s.entries (m.id - 1))) + sizes_of (m.made ∷ []) = ap sizes_of (live_after s t m) ∙ sizes_append (live (changed_at dead_entry s.entries (m.id - 1))) (m.made ∷ []) in
         let b = fewer_live s.entries (m.id - 1) in
         let c : t.nodes ≡ s.nodes + (clause_size m.made + 0) = ap (λ (u : State). u.nodes) m.is ∙ ap (λ d. s.nodes + (clause_size d + 0)) m.made_clause in
         omega (arith, a, b, c, h)

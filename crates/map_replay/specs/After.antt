@@ -9,7 +9,7 @@ use Rattle.map_replay.specs.declared.step.Step.{Step}
 use Rattle.map_replay.specs.declared.step.Step.TheVariants.{Merge}
 use Rattle.map_replay.specs.declared.refusal.Refusal.{Refusal}
 use Rattle.map_replay.specs.declared.refusal.Refusal.TheVariants.{NoClause, NoAtom, RepeatedPosition, NotEqualAtoms, TooLarge}
-use Rattle.map_replay.specs.State.{Entry, State, entry_at, live_count}
+use Rattle.map_replay.specs.State.{Entry, State, live_at, live_count}
 use Rattle.map_replay.specs.SameTree.{same_tree}
 
 -- ---- What every step does that rewrites clauses
@@ -26,8 +26,9 @@ pub record Rewriting : Type 0 where
   pub made : List Draft
   pub step : Step
 
-abbrev pub new_entry : ℕ → Draft → Clause → Entry
-new_entry number draft c = record { clause = c; mark = draft.mark; live = true; made_at = number; parents = draft.parents }
+-- the entry of a clause that the step of this number makes
+abbrev pub new_entry : ℕ → Bool → List ℕ → Clause → Entry
+new_entry number mark parents c = record { clause = c; mark = mark; live = true; made_at = number; parents = parents }
 
 abbrev pub put_first : (Clause → Entry) → Result Clause Limit → Result (List Entry) Limit → Result (List Entry) Limit
 put_first entry (Ok c) (Ok entries) = Ok (entry c ∷ entries)
@@ -37,19 +38,22 @@ put_first entry (Err limit) rest = Err limit
 -- the entries of new clauses, each in canonical form, or the limit that the first bad one is past
 abbrev pub new_entries : ℕ → List Draft → Result (List Entry) Limit
 new_entries number [] = Ok []
-new_entries number (d ∷ ds) = put_first (new_entry number d) (new_clause d.clause) (new_entries number ds)
+new_entries number (d ∷ ds) = put_first (new_entry number d.mark d.parents) (new_clause d.clause) (new_entries number ds)
 
--- the entry at this place is no longer live
-abbrev pub killed_at : List (Option Entry) → ℕ → List (Option Entry)
-killed_at [] place = []
-killed_at (None ∷ entries) zero = None ∷ entries
-killed_at (Some e ∷ entries) zero = Some (record e { live = false }) ∷ entries
-killed_at (e ∷ entries) (suc place) = e ∷ killed_at entries place
+-- the list with another element at this place
+abbrev pub changed_at : {A : Type 0} → (A → A) → List A → ℕ → List A
+changed_at f [] place = []
+changed_at f (x ∷ xs) zero = f x ∷ xs
+changed_at f (x ∷ xs) (suc place) = x ∷ changed_at f xs place
+
+abbrev pub dead_entry : Option Entry → Option Entry
+dead_entry None = None
+dead_entry (Some e) = Some (record e { live = false })
 
 -- the entries with these ids are no longer live
 abbrev pub killed : List (Option Entry) → List ℕ → List (Option Entry)
 killed entries [] = entries
-killed entries (id ∷ ids) = killed (killed_at entries (id - 1)) ids
+killed entries (id ∷ ids) = killed (changed_at dead_entry entries (id - 1)) ids
 
 abbrev pub entries_nodes : List Entry → ℕ
 entries_nodes [] = 0
@@ -64,12 +68,19 @@ replaced s dead entries step =
       nodes = s.nodes + entries_nodes entries;
     }
 
--- a new state, or the limit that it is past
+-- the limit that a new state is past, if there is one
+abbrev pub state_limit : State → Option Limit
+state_limit s =
+    if nat_lt 4096 (live_count s) then Some Clauses
+    else (if nat_lt 8388608 s.nodes then Some Nodes
+    else None)
+
+abbrev pub unless_limit : Option Limit → State → Result State Refusal
+unless_limit None s = Ok s
+unless_limit (Some limit) s = Err (TooLarge limit)
+
 abbrev pub within_limits : State → Result State Refusal
-within_limits s =
-    if nat_lt 4096 (live_count s) then Err (TooLarge Clauses)
-    else (if nat_lt 8388608 s.nodes then Err (TooLarge Nodes)
-    else Ok s)
+within_limits s = unless_limit (state_limit s) s
 
 abbrev pub replaced_by : State → List ℕ → Step → Result (List Entry) Limit → Result State Refusal
 replaced_by s dead step (Ok entries) = within_limits (replaced s dead entries step)
@@ -81,14 +92,6 @@ abbrev pub rewritten : State → Rewriting → Result State Refusal
 rewritten s r = replaced_by s r.dead r.step (new_entries (length s.steps + 1) r.made)
 
 -- ---- merge C at I,J
-
--- the entry with this id, if it is live
-abbrev pub if_live : Option Entry → Option Entry
-if_live None = None
-if_live (Some e) = if e.live then Some e else None
-
-abbrev pub live_at : State → ℕ → Option Entry
-live_at s id = if_live (entry_at s id)
 
 -- positions count from 1
 abbrev pub in_range : List (Tree ℕ) → ℕ → Bool

@@ -7,3 +7,4 @@ pub mod Script
 pub mod Replay
 pub mod Headline
 pub mod Seen
+pub mod ScriptText

@@ -34,7 +34,7 @@ refusal_as other text = fault_at (in_place_of other (reason (kind text))) text
 unfoldable pub sees_word : List ℕ → List ℕ → Bool
 sees_word wanted text = sees k.Name text && bytes_eq (spelling text) wanted
 
--- takes this word; another token is a fault of this kind
+-- takes this word; another token is a fault of this kind, where it has none of its own
 unfoldable pub word_or : Kind → List ℕ → Parser (List ℕ) (Unit {0})
 word_or other wanted = λ text. if sees_word wanted text then Ok (tt, next text) else Err (refusal_as other text)
 

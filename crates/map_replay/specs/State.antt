@@ -1,5 +1,5 @@
 -- The state of a run.
-use Rattle.std.specs.Prelude.{ℕ, ◌+◌, ◌-◌, Bool, true, List, [], ◌∷◌, ◌++◌, map, length, Option, Some, None, option_map, slice_index_or, nat_eq, nat_lt, if◌then◌else◌}
+use Rattle.std.specs.Prelude.{ℕ, suc, ◌+◌, ◌-◌, Bool, true, List, [], ◌∷◌, ◌++◌, map, length, Option, Some, None, option_map, slice_index_or, nat_eq, nat_lt, if◌then◌else◌}
 use Rattle.clp_model.specs.declared.predicate.Pred.{Pred}
 use Rattle.clp_model.specs.Clauses.{Clause}
 use Rattle.clp_model.specs.Canonical.{clause_size}
@@ -29,20 +29,47 @@ clauses_where test [] = []
 clauses_where test (None ∷ entries) = clauses_where test entries
 clauses_where test (Some e ∷ entries) = if test e then e.clause ∷ clauses_where test entries else clauses_where test entries
 
+abbrev pub is_live : Entry → Bool
+is_live e = e.live
+
+abbrev pub is_loaded : Entry → Bool
+is_loaded e = nat_eq e.made_at 0
+
 -- the program of a state: its live clauses, by rising id
 abbrev pub live_clauses : State → List Clause
-live_clauses s = clauses_where (λ e. e.live) s.entries
+live_clauses s = clauses_where is_live s.entries
 
 -- the clauses made at step 0, and the kept definitions
 abbrev pub base_clauses : State → List Clause
-base_clauses s = clauses_where (λ e. nat_eq e.made_at 0) s.entries ++ s.definitions
+base_clauses s = clauses_where is_loaded s.entries ++ s.definitions
+
+-- the ids of the entries that pass a test, where the first has this id
+abbrev pub ids_where : (Entry → Bool) → ℕ → List (Option Entry) → List ℕ
+ids_where test id [] = []
+ids_where test id (None ∷ entries) = ids_where test (suc id) entries
+ids_where test id (Some e ∷ entries) = if test e then id ∷ ids_where test (suc id) entries else ids_where test (suc id) entries
+
+-- the ids of the live clauses, in rising order
+abbrev pub live_ids_of : State → List ℕ
+live_ids_of s = ids_where is_live 1 s.entries
 
 abbrev pub live_count : State → ℕ
 live_count s = length (live_clauses s)
 
 -- the entry with this id; ids begin at 1
+abbrev pub entry_of : List (Option Entry) → ℕ → Option Entry
+entry_of entries id = if nat_lt 0 id then slice_index_or entries (id - 1) None else None
+
 abbrev pub entry_at : State → ℕ → Option Entry
-entry_at s id = if nat_lt 0 id then slice_index_or s.entries (id - 1) None else None
+entry_at s id = entry_of s.entries id
+
+abbrev pub if_live : Option Entry → Option Entry
+if_live None = None
+if_live (Some e) = if e.live then Some e else None
+
+-- the entry with this id, if it is live
+abbrev pub live_at : State → ℕ → Option Entry
+live_at s id = if_live (entry_at s id)
 
 -- a loaded clause is marked and live
 abbrev pub loaded_entry : Clause → Entry
