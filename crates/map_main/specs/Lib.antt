@@ -1,0 +1,9 @@
+pub mod Outside
+pub mod Memory
+pub mod Status
+pub mod Command
+pub mod Lines
+pub mod Causes
+pub mod Answers
+pub mod Headline
+pub mod Endings

@@ -1,0 +1,212 @@
+// The outside over real files, standard input and standard output. It tells no content.
+ghost use Rattle.std.specs.Prelude.{◌≡◌, ◌≢◌, ◌<◌, ◌≤◌, ◌↔◌, false, [], None, Ok, Err, IfOk, OnOk, OnErr, length, take, string_bytes, vec_len};
+ghost use Rattle.std.specs.IoError.{error_kind};
+ghost use Rattle.std.specs.Io.KnownBytes.{Appends, Consumes, IsAtEnd, Keeps};
+ghost use Rattle.map_main.specs.Outside.{Rose, tells_end};
+
+use super::outside::{Loading, Shelf, ShelfFault, Sink, SinkFault, Source, SourceFault};
+use std::fs;
+use std::io::{self, ErrorKind, Read, Write};
+use std::rt::Files;
+
+/// The files of the system.
+#[derive(Drop)]
+pub struct FileShelf<'a, R: AllocGlobal> {
+    rt: &'a R,
+    faults: u64,
+    failed: String,
+}
+
+impl<'a, R: Files + AllocGlobal> FileShelf<'a, R> {
+    /// The files that this runtime opens.
+    pub fn new(rt: &'a R) -> FileShelf<'a, R>
+        ensures faults { ⟦<FileShelf<'a, R> as Shelf>⟧.faults result ≡ 0 }
+        ensures failed { ⟦<FileShelf<'a, R> as Shelf>⟧.failed result ≡ [] }
+    {
+        FileShelf {
+            rt,
+            faults: 0,
+            failed: String::new(rt.alloc()),
+        }
+    }
+}
+
+impl<R: Files + AllocGlobal> Shelf for FileShelf<'_, R> {
+    ghost files = { λ _. None };
+
+    ghost faults = { λ s. s.faults };
+
+    ghost failed = { λ s. string_bytes s.failed };
+
+    fn load(&mut self, name: &str, into: &mut Vec<u8>, most: usize) -> Result<Loading, ShelfFault> {
+        let Ok(copy) = String::from_str(self.rt.alloc(), name) else {
+            return Err(ShelfFault::NoMemory);
+        };
+        match read_file(self.rt, name, into, most) {
+            Ok(loading) => Ok(loading),
+            Err(ShelfFault::NoMemory) => Err(ShelfFault::NoMemory),
+            Err(ShelfFault::Failed) => {
+                self.faults = self.faults.saturating_add(1);
+                self.failed = copy;
+                Err(ShelfFault::Failed)
+            }
+        }
+    }
+}
+
+/// Reads the file whole, where it has at most `most` bytes, and else nothing.
+fn read_file<R: Files>(
+    rt: &R,
+    name: &str,
+    into: &mut Vec<u8>,
+    most: usize,
+) -> Result<Loading, ShelfFault>
+    requires { into.old.items ≡ [] }
+    ensures whole { result ≡ Ok Loading.Whole → vec_len into.new ≤ most }
+    ensures empty { result ≢ Ok Loading.Whole → into.new.items ≡ [] }
+{
+    let mut file = match fs::open(rt, name) {
+        Ok(file) => file,
+        Err(error) => return Err(shelf_fault(&error)),
+    };
+    let answer = read_all(&mut file, into, most);
+    if answer != Ok(Loading::Whole) {
+        into.clear();
+    }
+    answer
+}
+
+/// Reads to the end, or past `most` bytes.
+fn read_all<F: Read>(file: &mut F, into: &mut Vec<u8>, most: usize) -> Result<Loading, ShelfFault>
+    requires { into.old.items ≡ [] }
+    ensures taken { OnOk result
+        (Consumes (F.remaining file.old) (F.remaining file.new) into.new.items) }
+    ensures whole { result ≡ Ok Loading.Whole →
+        (vec_len into.new ≤ most) × IsAtEnd (F.remaining file.new) }
+    ensures long { result ≡ Ok Loading.TooLong → most < vec_len into.new }
+{
+    let mut buf = [0u8; 4096];
+    while into.len() <= most {
+        let n = match file.read(&mut buf) {
+            Ok(n) => n,
+            Err(error) => return Err(shelf_fault(&error)),
+        };
+        if n == 0 {
+            return Ok(Loading::Whole);
+        }
+        if into.extend_from_slice(&buf[..n]).is_err() {
+            return Err(ShelfFault::NoMemory);
+        }
+    }
+    Ok(Loading::TooLong)
+}
+
+/// Want of memory where the system says so, and a fault for all else.
+fn shelf_fault(error: &io::Error) -> ShelfFault
+    ensures { (result ≡ ShelfFault.NoMemory) ↔ (error_kind error.now ≡ ErrorKind.OutOfMemory) }
+{
+    if error.kind() == ErrorKind::OutOfMemory {
+        ShelfFault::NoMemory
+    } else {
+        ShelfFault::Failed
+    }
+}
+
+/// The input of the system, or another reader.
+#[derive(Drop)]
+pub struct InputSource<R> {
+    inner: R,
+    faults: u64,
+    ended: bool,
+}
+
+impl<R: Read> InputSource<R> {
+    /// What this reader gives.
+    pub fn new(inner: R) -> InputSource<R>
+        ensures faults { ⟦<InputSource<R> as Source>⟧.faults result ≡ 0 }
+        ensures ended { ⟦<InputSource<R> as Source>⟧.ended result ≡ false }
+    {
+        InputSource {
+            inner,
+            faults: 0,
+            ended: false,
+        }
+    }
+}
+
+impl<R: Read> Source for InputSource<R> {
+    ghost left = { λ _. None };
+
+    ghost ended = { λ s. s.ended };
+
+    ghost faults = { λ s. s.faults };
+
+    // What it gives is what the reader gave.
+    fn read(&mut self, buf: &mut [u8]) -> Result<usize, SourceFault>
+        requires room { 0 < length buf.old }
+        requires more { self.old.ended ≡ false }
+        ensures passes { IfOk result (λ n.
+            Consumes (R.remaining self.old.inner) (R.remaining self.new.inner) (take n buf.new)) }
+        ensures end { IfOk result (λ n. n ≡ 0 → IsAtEnd (R.remaining self.new.inner)) }
+        ensures err { OnErr result (Keeps (R.remaining self.old.inner) (R.remaining self.new.inner)) }
+        ensures count { IfOk result (λ n. n ≤ length buf.new) }
+        ensures told { self.new.ended ≡ tells_end result }
+        ensures cause { OnErr result (Rose self.old.faults self.new.faults) }
+        ensures quiet { OnOk result (self.new.faults ≡ self.old.faults) }
+        ensures later { self.old.faults ≤ self.new.faults }
+    {
+        match self.inner.read(buf) {
+            Ok(n) => {
+                self.ended = n == 0;
+                Ok(n)
+            }
+            Err(_) => {
+                self.faults = self.faults.saturating_add(1);
+                Err(SourceFault::Failed)
+            }
+        }
+    }
+}
+
+/// The output of the system, or another writer.
+#[derive(Drop)]
+pub struct OutputSink<W> {
+    inner: W,
+    faults: u64,
+}
+
+impl<W: Write> OutputSink<W> {
+    /// What this writer takes.
+    pub fn new(inner: W) -> OutputSink<W>
+        ensures { ⟦<OutputSink<W> as Sink>⟧.faults result ≡ 0 }
+    {
+        OutputSink { inner, faults: 0 }
+    }
+}
+
+impl<W: Write> Sink for OutputSink<W> {
+    ghost taken = { λ _. None };
+
+    ghost faults = { λ s. s.faults };
+
+    // What it takes the writer took.
+    fn write(&mut self, piece: &[u8]) -> Result<usize, SinkFault>
+        requires { 0 < length piece.now }
+        ensures passes { IfOk result (λ n.
+            Appends (W.contents self.old.inner) (W.contents self.new.inner) (take n piece.now)) }
+        ensures err { OnErr result (Keeps (W.contents self.old.inner) (W.contents self.new.inner)) }
+        ensures count { IfOk result (λ n. (0 < n) × (n ≤ length piece.now)) }
+        ensures cause { result ≡ Err SinkFault.Failed → Rose self.old.faults self.new.faults }
+        ensures quiet { result ≢ Err SinkFault.Failed → self.new.faults ≡ self.old.faults }
+        ensures later { self.old.faults ≤ self.new.faults }
+    {
+        match self.inner.write(piece) {
+            Ok(n) if n > 0 => Ok(n),
+            Err(error) if error.kind() == ErrorKind::OutOfMemory => Err(SinkFault::NoMemory),
+            _ => {
+                self.faults = self.faults.saturating_add(1);
+                Err(SinkFault::Failed)
+            }
+        }
+    }
+}

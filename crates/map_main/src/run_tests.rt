@@ -1,0 +1,470 @@
+// What the top call answers over the outside in memory.
+use super::{MemShelf, MemSink, MemSource, Status, Words, map_run};
+use itoa::Buffer;
+use std::alloc::{AllocError, Global};
+
+const PROGRAM: &str = "p(X) :- q(X), q(X).\n";
+
+const SCRIPT: &str = "map script 1.\nmerge 1 at 1,2.\n";
+
+const OUTPUT: &str = "p(V1) :- q(V1).\n";
+
+const USAGE: &str = "usage: map replay P S\n";
+
+/// The status of a call, the name of the last failed load, and the text that was written.
+#[derive(Drop)]
+struct Outcome {
+    status: Status,
+    failed: String,
+    written: Vec<u8>,
+}
+
+/// The call of these words, which stand between spaces, on files P and S. The load and the write of
+/// these numbers fail, and the sink takes at most `most` bytes at once.
+fn call(
+    alloc: Global,
+    words: &str,
+    files: Vec<(String, Vec<u8>)>,
+    load_fails: u32,
+    most: usize,
+    write_fails: u32,
+) -> Result<Outcome, AllocError> {
+    let mut all = Words::new(alloc);
+    for word in words.split(' ') {
+        if all.push(word).is_err() {
+            return Err(AllocError);
+        }
+    }
+    let mut shelf = MemShelf::new(files, vec![in alloc; load_fails]?);
+    let mut input = MemSource::new(Vec::new(alloc), 1, Vec::new(alloc));
+    let mut out = MemSink::new(Vec::new(alloc), most.max(1), vec![in alloc; write_fails]?);
+    let status = map_run(alloc, &all, &mut shelf, &mut input, &mut out);
+    Ok(Outcome {
+        status,
+        failed: shelf.failed,
+        written: out.taken,
+    })
+}
+
+/// Files P and S, where they are there.
+fn files(
+    alloc: Global,
+    program: Option<&str>,
+    script: Option<&str>,
+) -> Result<Vec<(String, Vec<u8>)>, AllocError> {
+    let mut files = Vec::new(alloc);
+    for (name, text) in [("P", program), ("S", script)] {
+        if let Some(text) = text {
+            let bytes = Vec::from_slice(alloc, text.as_bytes())?;
+            files.push((String::from_str(alloc, name)?, bytes))?;
+        }
+    }
+    Ok(files)
+}
+
+/// The text, and then white up to this length.
+fn padded(alloc: Global, text: &str, length: usize) -> Result<Vec<u8>, AllocError> {
+    let mut bytes = Vec::from_slice(alloc, text.as_bytes())?;
+    for _ in bytes.len()..length {
+        bytes.push(b' ')?;
+    }
+    Ok(bytes)
+}
+
+/// Words between spaces, and the status and text that they must have where P and S are good.
+static CALLS: [(&str, Status, &str); 15] = [
+    ("map replay P S", Status::Ok, OUTPUT),
+    ("/bin/map replay P S", Status::Ok, OUTPUT),
+    (" replay P S", Status::Ok, OUTPUT),
+    ("", Status::Usage, USAGE),
+    ("map", Status::Usage, USAGE),
+    ("map replay", Status::Usage, USAGE),
+    ("map replay P", Status::Usage, USAGE),
+    ("map replay P S S", Status::Usage, USAGE),
+    ("replay P S", Status::Usage, USAGE),
+    ("replay map P S", Status::Usage, USAGE),
+    ("map Replay P S", Status::Usage, USAGE),
+    ("map replays P S", Status::Usage, USAGE),
+    ("map replay  S", Status::ShelfFault, ""),
+    ("map replay P P", Status::BadScript, "bad script\n"),
+    ("map replay S S", Status::BadProgram, "bad program\n"),
+];
+
+#[test]
+fn words_of_calls(rt: HostRuntime) -> Result<(), AllocError> {
+    for (words, status, written) in CALLS.iter() {
+        let files = files(rt.alloc(), Some(PROGRAM), Some(SCRIPT))?;
+        let outcome = call(rt.alloc(), words, files, 0, 1, 0)?;
+        assert_eq!(rt; outcome.status, *status, "{words}");
+        assert!(rt; outcome.written.as_slice() == written.as_bytes(), "{words}");
+    }
+    Ok(())
+}
+
+#[test]
+fn no_words(rt: HostRuntime) -> Result<(), AllocError> {
+    let mut shelf = MemShelf::new(Vec::new(rt.alloc()), Vec::new(rt.alloc()));
+    let mut input = MemSource::new(Vec::new(rt.alloc()), 1, Vec::new(rt.alloc()));
+    let mut out = MemSink::new(Vec::new(rt.alloc()), 9, Vec::new(rt.alloc()));
+    let words = Words::new(rt.alloc());
+    let status = map_run(rt.alloc(), &words, &mut shelf, &mut input, &mut out);
+    assert_eq!(rt; status, Status::Usage);
+    assert!(rt; out.taken.as_slice() == USAGE.as_bytes());
+    assert!(rt; shelf.calls == 0 && input.calls == 0);
+    Ok(())
+}
+
+/// Files P and S, where they are there; the numbers of the load and of the write that fail, 0 for
+/// none; the status, the name of the last failed load, and the text that is written.
+type Case = (
+    Option<&'static str>,
+    Option<&'static str>,
+    u32,
+    u32,
+    Status,
+    &'static str,
+    &'static str,
+);
+
+static CASES: [Case; 38] = [
+    // The output.
+    (Some(PROGRAM), Some(SCRIPT), 0, 0, Status::Ok, "", OUTPUT),
+    (Some(""), Some("map script 1."), 0, 0, Status::Ok, "", ""),
+    (
+        Some("p.\nq :- p."),
+        Some("map script 1."),
+        0,
+        0,
+        Status::Ok,
+        "",
+        "p.\nq :- p.\n",
+    ),
+    (
+        Some("p :- q, q. r."),
+        Some("map script 1. merge 1 at 2,1."),
+        0,
+        0,
+        Status::Ok,
+        "",
+        "r.\np :- q.\n",
+    ),
+    (
+        Some("p(X) :- q(X), r, q(X), r."),
+        Some("map script 1. merge 1 at 1,3. merge 2 at 2,3."),
+        0,
+        0,
+        Status::Ok,
+        "",
+        "p(V1) :- q(V1), r.\n",
+    ),
+    // A bad program or script.
+    (
+        Some("p"),
+        Some(SCRIPT),
+        0,
+        0,
+        Status::BadProgram,
+        "",
+        "bad program\n",
+    ),
+    (
+        Some("p(X :- q."),
+        Some(""),
+        0,
+        0,
+        Status::BadProgram,
+        "",
+        "bad program\n",
+    ),
+    (
+        Some("true."),
+        Some(SCRIPT),
+        0,
+        0,
+        Status::BadProgram,
+        "",
+        "bad program\n",
+    ),
+    (
+        Some("% p."),
+        Some("map script 2."),
+        0,
+        0,
+        Status::BadProgram,
+        "",
+        "bad program\n",
+    ),
+    (
+        Some(PROGRAM),
+        Some(""),
+        0,
+        0,
+        Status::BadScript,
+        "",
+        "bad script\n",
+    ),
+    (
+        Some(PROGRAM),
+        Some("merge 1 at 1,2."),
+        0,
+        0,
+        Status::BadScript,
+        "",
+        "bad script\n",
+    ),
+    (
+        Some(PROGRAM),
+        Some("map script 2."),
+        0,
+        0,
+        Status::BadScript,
+        "",
+        "bad script\n",
+    ),
+    (
+        Some(PROGRAM),
+        Some("map script 1. merge 7 at 1,2. merge 1 at 1"),
+        0,
+        0,
+        Status::BadScript,
+        "",
+        "bad script\n",
+    ),
+    // A refused step.
+    (
+        Some(PROGRAM),
+        Some("map script 1. merge 2 at 1,2."),
+        0,
+        0,
+        Status::Refused,
+        "",
+        "refused: step 1: 1 no clause 2\n",
+    ),
+    (
+        Some(PROGRAM),
+        Some("map script 1. merge 1 at 3,4."),
+        0,
+        0,
+        Status::Refused,
+        "",
+        "refused: step 1: 2 no atom 3\n",
+    ),
+    (
+        Some(PROGRAM),
+        Some("map script 1. merge 1 at 2,0."),
+        0,
+        0,
+        Status::Refused,
+        "",
+        "refused: step 1: 2 no atom 0\n",
+    ),
+    (
+        Some(PROGRAM),
+        Some("map script 1. merge 1 at 2,2."),
+        0,
+        0,
+        Status::Refused,
+        "",
+        "refused: step 1: 4 repeated position 2\n",
+    ),
+    (
+        Some("p(X) :- q(X), r, q(X), r."),
+        Some("map script 1. merge 1 at 2,1."),
+        0,
+        0,
+        Status::Refused,
+        "",
+        "refused: step 1: 21 not equal atoms 2 1\n",
+    ),
+    (
+        Some(PROGRAM),
+        Some("map script 1. merge 1 at 1,2. merge 1 at 1,2. merge 9 at 1,2."),
+        0,
+        0,
+        Status::Refused,
+        "",
+        "refused: step 2: 1 no clause 1\n",
+    ),
+    // A failing object: each of its first calls.
+    (
+        Some(PROGRAM),
+        Some(SCRIPT),
+        1,
+        0,
+        Status::ShelfFault,
+        "P",
+        "",
+    ),
+    (
+        Some(PROGRAM),
+        Some(SCRIPT),
+        2,
+        0,
+        Status::ShelfFault,
+        "S",
+        "",
+    ),
+    (Some(PROGRAM), Some(SCRIPT), 3, 0, Status::Ok, "", OUTPUT),
+    (Some(PROGRAM), Some(SCRIPT), 0, 1, Status::SinkFault, "", ""),
+    (
+        Some(PROGRAM),
+        Some(SCRIPT),
+        0,
+        2,
+        Status::SinkFault,
+        "",
+        "p(V1",
+    ),
+    (
+        Some(PROGRAM),
+        Some(SCRIPT),
+        0,
+        4,
+        Status::SinkFault,
+        "",
+        "p(V1) :- q(V",
+    ),
+    (Some(PROGRAM), Some(SCRIPT), 0, 5, Status::Ok, "", OUTPUT),
+    (
+        Some(PROGRAM),
+        Some("map script 1. merge 2 at 1,2."),
+        0,
+        3,
+        Status::SinkFault,
+        "",
+        "refused:",
+    ),
+    // A file that is not there.
+    (None, Some(SCRIPT), 0, 0, Status::ShelfFault, "P", ""),
+    (Some(PROGRAM), None, 0, 0, Status::ShelfFault, "S", ""),
+    // Neighbours in the order of the answers, both with cause.
+    (None, None, 0, 1, Status::ShelfFault, "P", ""),
+    (None, Some("p"), 0, 1, Status::ShelfFault, "P", ""),
+    (
+        Some("p"),
+        None,
+        0,
+        0,
+        Status::BadProgram,
+        "",
+        "bad program\n",
+    ),
+    (Some("p"), Some(SCRIPT), 2, 1, Status::SinkFault, "", ""),
+    (Some("p"), Some("p"), 2, 2, Status::SinkFault, "", "bad "),
+    (Some(PROGRAM), Some("p"), 2, 1, Status::ShelfFault, "S", ""),
+    (
+        Some(PROGRAM),
+        Some("p"),
+        0,
+        2,
+        Status::SinkFault,
+        "",
+        "bad ",
+    ),
+    (
+        Some(PROGRAM),
+        Some("map script 1. merge 2 at 1,2."),
+        0,
+        1,
+        Status::SinkFault,
+        "",
+        "",
+    ),
+    (Some(PROGRAM), None, 0, 1, Status::ShelfFault, "S", ""),
+];
+
+#[test]
+fn files_and_faults(rt: HostRuntime) -> Result<(), AllocError> {
+    for (at, case) in CASES.iter().enumerate() {
+        let (program, script, load_fails, write_fails, status, failed, written) = *case;
+        let files = files(rt.alloc(), program, script)?;
+        let outcome = call(
+            rt.alloc(),
+            "map replay P S",
+            files,
+            load_fails,
+            4,
+            write_fails,
+        )?;
+        assert_eq!(rt; outcome.status, status, "case {at}");
+        assert!(rt; outcome.failed.as_str() == failed, "case {at}");
+        assert!(rt;
+            outcome.written.as_slice() == written.as_bytes(),
+            "case {at}"
+        );
+    }
+    Ok(())
+}
+
+/// Lengths of P and of S, each filled up with white, 0 where there is no S; and the answer.
+const LENGTHS: [(usize, usize, Status, &str); 5] = [
+    (1_048_576, 16_777_216, Status::Ok, OUTPUT),
+    (1_048_577, 99, Status::BadProgram, "bad program\n"),
+    (1_048_577, 16_777_217, Status::BadProgram, "bad program\n"),
+    (1_048_577, 0, Status::BadProgram, "bad program\n"),
+    (99, 16_777_217, Status::BadScript, "bad script\n"),
+];
+
+#[test]
+fn long_files(rt: HostRuntime) -> Result<(), AllocError> {
+    for (program, script, status, written) in LENGTHS {
+        let program = padded(rt.alloc(), PROGRAM, program)?;
+        let script = padded(rt.alloc(), if script == 0 { "" } else { SCRIPT }, script)?;
+        let mut files = Vec::new(rt.alloc());
+        files.push((String::from_str(rt.alloc(), "P")?, program))?;
+        if !script.is_empty() {
+            files.push((String::from_str(rt.alloc(), "S")?, script))?;
+        }
+        let outcome = call(rt.alloc(), "map replay P S", files, 0, 4096, 0)?;
+        assert_eq!(rt; outcome.status, status);
+        assert!(rt; outcome.written.as_slice() == written.as_bytes());
+    }
+    Ok(())
+}
+
+/// 65 clauses, each of a head of one node and 64 equal atoms of 63 nodes.
+fn large_program(alloc: Global) -> Result<String, AllocError> {
+    let mut program = String::new(alloc);
+    for _ in 0..65u8 {
+        program.push_str("p :- ")?;
+        for atom in 0..64u8 {
+            program.push_str(if atom == 0 { "q(a" } else { ", q(a" })?;
+            for _ in 0..61u8 {
+                program.push_str(",a")?;
+            }
+            program.push_str(")")?;
+        }
+        program.push_str(".\n")?;
+    }
+    Ok(program)
+}
+
+/// Merges all atoms of each clause into one.
+fn large_script(alloc: Global) -> Result<String, AllocError> {
+    let mut script = String::from_str(alloc, "map script 1.\n")?;
+    let mut next = 66u32;
+    for clause in 1..66u32 {
+        let mut id = clause;
+        for _ in 0..63u8 {
+            script.push_str("merge ")?;
+            script.push_str(Buffer::new().format(id))?;
+            script.push_str(" at 1,2.\n")?;
+            id = next;
+            next = next.wrapping_add(1);
+        }
+    }
+    Ok(script)
+}
+
+#[test]
+fn too_many_nodes(rt: HostRuntime) -> Result<(), AllocError> {
+    let program = large_program(rt.alloc())?;
+    let script = large_script(rt.alloc())?;
+    let files = files(rt.alloc(), Some(program.as_str()), Some(script.as_str()))?;
+    let outcome = call(rt.alloc(), "map replay P S", files, 0, 4096, 0)?;
+    assert_eq!(rt; outcome.status, Status::Refused);
+    assert!(rt;
+        outcome.written.as_slice() == b"refused: step 4019: 24 too large nodes\n".as_slice()
+    );
+    Ok(())
+}
