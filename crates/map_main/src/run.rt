@@ -4,7 +4,6 @@ ghost use Rattle.std.specs.Io.KnownBytes.{append_known};
 ghost use Rattle.map_replay.specs.State.{State as RunState};
 ghost use Rattle.map_replay.specs.Replay.{output};
 ghost use Rattle.map_replay.specs.Seen.{state_of};
-ghost use Rattle.map_replay.proofs.Headline.{ReadsBack};
 ghost use Rattle.map_main.specs.Outside.{Files, Rose};
 ghost use Rattle.map_main.specs.Command.{command_of};
 ghost use Rattle.map_main.specs.Lines.{usage_line, bad_program_line, bad_script_line, refused_line};
@@ -40,7 +39,7 @@ pub fn map_run<H: Shelf, I: Source, O: Sink>(
     // What is written is the program that the script makes of the program, once every step is accepted.
     ensures ok { result ≡ Status.Ok → (end : RunState) × IsAccepted words.now (H.files shelf.old) end
         × (O.taken out.new ≡ append_known (O.taken out.old) (output end)) }
-    ensures headline { ReadsBack → result ≡ Status.Ok → (files : Files) (before : List ℕ)
+    ensures headline { result ≡ Status.Ok → (files : Files) (before : List ℕ)
         → H.files shelf.old ≡ Some files → O.taken out.old ≡ Some before
         → KeepsProvabilityOnFiles words.now files before (O.taken out.new) }
     // Otherwise it is the one line of the first cause.

@@ -7,7 +7,7 @@ returns-clause-ok g c = ok _ _ _ _ _ _ _ _ _ _ c.answer.ensures.ends
 
 pub returns-clause-headline : goal.returns-clause-headline
 returns-clause-headline g c =
-    λ reads_back e files before t k. keeps_provability_on_files (keeps_provability reads_back) _ _ files t _ _ before k (ok _ _ _ _ _ _ _ _ _ _ c.answer.ensures.ends e)
+    λ e files before t k. keeps_provability_on_files keeps_provability _ _ files t _ _ before k (ok _ _ _ _ _ _ _ _ _ _ c.answer.ensures.ends e)
 
 pub returns-clause-refused : goal.returns-clause-refused
 returns-clause-refused g c = refused _ _ _ _ _ _ _ _ _ _ c.answer.ensures.ends
