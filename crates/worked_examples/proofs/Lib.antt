@@ -1,0 +1,7 @@
+pub mod Values
+pub mod Numbers
+pub mod Meaning
+pub mod RowInstances
+pub mod Trees
+pub mod Merges
+pub mod Printed

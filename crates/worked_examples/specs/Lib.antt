@@ -1,0 +1,5 @@
+pub mod Samples
+pub mod Numbers
+pub mod Instances
+pub mod Merges
+pub mod Printed
