@@ -1,0 +1,13 @@
+//! Tests that cross crates: the limits of loading and of steps on both sides, the answers of whole scripts,
+//! and copies. There is no other code here.
+#![tactic(auto)]
+
+#[cfg(test)]
+mod copies;
+#[cfg(test)]
+mod loads;
+#[cfg(test)]
+mod steps;
+
+/// Nothing: a library needs an item.
+pub fn nothing() {}
