@@ -30,6 +30,7 @@ pub record Rewriting : Type 0 where
 abbrev pub new_entry : ℕ → Bool → List ℕ → Clause → Entry
 new_entry number mark parents c = record { clause = c; mark = mark; live = true; made_at = number; parents = parents }
 
+-- the entry of a new clause before those of the next ones, or the first limit that is past
 abbrev pub put_first : (Clause → Entry) → Result Clause Limit → Result (List Entry) Limit → Result (List Entry) Limit
 put_first entry (Ok c) (Ok entries) = Ok (entry c ∷ entries)
 put_first entry (Ok c) (Err limit) = Err limit
@@ -46,6 +47,7 @@ changed_at f [] place = []
 changed_at f (x ∷ xs) zero = f x ∷ xs
 changed_at f (x ∷ xs) (suc place) = x ∷ changed_at f xs place
 
+-- the entry, no longer live
 abbrev pub dead_entry : Option Entry → Option Entry
 dead_entry None = None
 dead_entry (Some e) = Some (record e { live = false })
@@ -55,6 +57,7 @@ abbrev pub killed : List (Option Entry) → List ℕ → List (Option Entry)
 killed entries [] = entries
 killed entries (id ∷ ids) = killed (changed_at dead_entry entries (id - 1)) ids
 
+-- the sizes of the clauses of these entries together
 abbrev pub entries_nodes : List Entry → ℕ
 entries_nodes [] = 0
 entries_nodes (e ∷ es) = clause_size e.clause + entries_nodes es
@@ -75,13 +78,16 @@ state_limit s =
     else (if nat_lt 8388608 s.nodes then Some Nodes
     else None)
 
+-- the state, unless a limit is past
 abbrev pub unless_limit : Option Limit → State → Result State Refusal
 unless_limit None s = Ok s
 unless_limit (Some limit) s = Err (TooLarge limit)
 
+-- a new state, or the refusal by the limit that it is past
 abbrev pub within_limits : State → Result State Refusal
 within_limits s = unless_limit (state_limit s) s
 
+-- the new state with these entries, or the refusal by the limit that a new clause is past
 abbrev pub replaced_by : State → List ℕ → Step → Result (List Entry) Limit → Result State Refusal
 replaced_by s dead step (Ok entries) = within_limits (replaced s dead entries step)
 replaced_by s dead step (Err limit) = Err (TooLarge limit)
@@ -118,21 +124,25 @@ without_place c place = record c { body = remove c.body place }
 abbrev pub merged : Entry → ℕ → ℕ → Draft
 merged e id second = record { clause = without_place e.clause (second - 1); mark = e.mark; parents = id ∷ [] }
 
+-- what follows, unless a condition is broken
 abbrev pub unless_broken : Option Refusal → Result State Refusal → Result State Refusal
 unless_broken None next = next
 unless_broken (Some refusal) next = Err refusal
 
+-- a merge in the clause of this entry, if there is a live one with this id
 abbrev pub merge_of : State → ℕ → ℕ → ℕ → Option Entry → Result State Refusal
 merge_of s id first second None = Err (NoClause id)
 merge_of s id first second (Some e) =
     unless_broken (first_broken e.clause.body first second)
     (rewritten s (record { dead = id ∷ []; made = merged e id second ∷ []; step = Merge id first second }))
 
+-- the state after `merge C at I,J`, or its first broken condition
 abbrev pub merge_after : State → ℕ → ℕ → ℕ → Result State Refusal
 merge_after s id first second = merge_of s id first second (live_at s id)
 
 -- ---- One step, and all of a script
 
+-- the state after a step by its rule, where there may be one step more
 abbrev pub by_rule : State → Step → Result State Refusal
 by_rule s (Merge id first second) = merge_after s id first second
 
@@ -140,6 +150,7 @@ by_rule s (Merge id first second) = merge_after s id first second
 abbrev pub after : State → Step → Result State Refusal
 after s step = if nat_le 100000 (length s.steps) then Err (TooLarge Steps) else by_rule s step
 
+-- goes on with the state after the step of this number, or tells its refusal
 abbrev pub go_on : ℕ → (State → Result State (ℕ × Refusal)) → Result State Refusal → Result State (ℕ × Refusal)
 go_on number next (Ok s) = next s
 go_on number next (Err refusal) = Err (number, refusal)

@@ -14,6 +14,7 @@ use Rattle.map_replay.specs.Seen.{Trees, Seen, state_of, entries_in, AllStored}
 abbrev pub made_entry : ℕ → Trees → Made → Entry
 made_entry number store m = new_entry number m.mark m.parents (clause_in store m.clause)
 
+-- the same of all clauses that a change makes
 abbrev pub made_entries : ℕ → Trees → List Made → List Entry
 made_entries number store made = map (made_entry number store) made
 

@@ -3,6 +3,7 @@ use Rattle.std.specs.Prelude.{◌-◌, vec_len, vec_capacity}
 use Rattle.map_replay.specs.declared.state.State.TheInside.{Inside}
 use Rattle.map_replay.specs.Seen.{Seen}
 
+-- each field as contracts see it, with the room that is left for entries and for steps
 abbrev pub seen_of : Inside → Seen
 seen_of s =
     record {

@@ -16,10 +16,12 @@ use Rattle.map_replay.specs.State.{Entry, State, start_state, live_clauses}
 use Rattle.map_replay.specs.After.{run}
 use Rattle.map_replay.specs.Script.{script}
 
+-- the start state of a loaded program, or why it was not loaded
 abbrev pub started : Result Program Limit → Result State ReplayFault
 started (Ok p) = Ok (start_state p.clauses p.predicates)
 started (Err limit) = Err (fault.Load (TooLarge limit))
 
+-- the start state of source clauses that were read, or why there is none
 abbrev pub loaded : Result (List SourceClause) Fault → Result State ReplayFault
 loaded (Ok source) = started (load (map of_source source))
 loaded (Err f) = Err fault.Program
@@ -28,10 +30,12 @@ loaded (Err f) = Err fault.Program
 abbrev pub opened : List ℕ → Result State ReplayFault
 opened text = loaded (program text)
 
+-- the state after a run, or the fault of its first refused step
 abbrev pub unless_refused : Result State (ℕ × Refusal) → Result State ReplayFault
 unless_refused (Ok t) = Ok t
 unless_refused (Err refused) = Err (fault.Refused refused.0 refused.1)
 
+-- the state after steps that were read, or why there is none
 abbrev pub carried_out : State → Result (List Step) Fault → Result State ReplayFault
 carried_out s (Ok steps) = unless_refused (run s steps)
 carried_out s (Err f) = Err fault.Script
@@ -40,6 +44,7 @@ carried_out s (Err f) = Err fault.Script
 abbrev pub scripted : State → List ℕ → Result State ReplayFault
 scripted s text = carried_out s (script text)
 
+-- the script on a state, where there is one
 abbrev pub then_scripted : List ℕ → Result State ReplayFault → Result State ReplayFault
 then_scripted text (Ok s) = scripted s text
 then_scripted text (Err f) = Err f

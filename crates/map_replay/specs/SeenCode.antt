@@ -11,6 +11,7 @@ use Rattle.map_replay.specs.declared.state.Entry.{Entry as Row}
 use Rattle.map_replay.specs.declared.step.Step.{Step}
 use Rattle.map_replay.specs.Seen.{Trees, Seen}
 
+-- the parts in a tuple, and back
 abbrev pub seen_code : Coded Seen
 seen_code =
     code_by (Trees × (List (Option Row) × (List Pred × (List Step × (ℕ × (ℕ × (ℕ × ℕ)))))))

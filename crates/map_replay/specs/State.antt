@@ -29,9 +29,11 @@ clauses_where test [] = []
 clauses_where test (None ∷ entries) = clauses_where test entries
 clauses_where test (Some e ∷ entries) = if test e then e.clause ∷ clauses_where test entries else clauses_where test entries
 
+-- the clause of the entry is live
 abbrev pub is_live : Entry → Bool
 is_live e = e.live
 
+-- the clause of the entry was made at step 0
 abbrev pub is_loaded : Entry → Bool
 is_loaded e = nat_eq e.made_at 0
 
@@ -53,6 +55,7 @@ ids_where test id (Some e ∷ entries) = if test e then id ∷ ids_where test (s
 abbrev pub live_ids_of : State → List ℕ
 live_ids_of s = ids_where is_live 1 s.entries
 
+-- how many clauses are live
 abbrev pub live_count : State → ℕ
 live_count s = length (live_clauses s)
 
@@ -60,9 +63,11 @@ live_count s = length (live_clauses s)
 abbrev pub entry_of : List (Option Entry) → ℕ → Option Entry
 entry_of entries id = if nat_lt 0 id then slice_index_or entries (id - 1) None else None
 
+-- the entry of a state with this id
 abbrev pub entry_at : State → ℕ → Option Entry
 entry_at s id = entry_of s.entries id
 
+-- the entry, if there is one and it is live
 abbrev pub if_live : Option Entry → Option Entry
 if_live None = None
 if_live (Some e) = if e.live then Some e else None

@@ -18,7 +18,6 @@ mod step;
 
 pub use change::{Change, Made, Ready};
 pub use laws::{replay_keeps_provability, run_keeps_provability};
-pub use merging::merge;
 pub use output::print_program;
 pub use refusal::{Refusal, refusal_text};
 pub use replay_fault::ReplayFault;
