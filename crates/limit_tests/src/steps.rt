@@ -128,6 +128,13 @@ fn answers(rt: HostRuntime) -> Result<(), Fail> {
     Ok(())
 }
 
+/// The id of an entry, whether it is live, its mark, and the number of the step that made it.
+static ENTRIES: [(u32, bool, bool, u32); 3] = [
+    (1, false, true, 0),
+    (2, true, true, 0),
+    (3, true, true, 1),
+];
+
 #[test]
 fn tells_the_state(rt: HostRuntime) -> Result<(), Fail> {
     let alloc = rt.alloc();
@@ -145,7 +152,8 @@ fn tells_the_state(rt: HostRuntime) -> Result<(), Fail> {
         assert_eq!(rt; (state.steps(), state.nodes(), state.next_id()), (1, 11, 4));
         assert_eq!(rt; state.live_ids()?.as_slice(), [2, 3].as_slice());
     }
-    for (id, live, mark, made_at) in [(1, false, true, 0), (2, true, true, 0), (3, true, true, 1)] {
+    for known in ENTRIES.iter() {
+        let (id, live, mark, made_at) = *known;
         let entry = state.fetch(id).ok_or("no entry")?;
         assert_eq!(rt;
             (entry.live, entry.mark, entry.made_at),
@@ -200,18 +208,19 @@ fn merge_in(id: u32) -> Step {
     }
 }
 
+static REFUSALS: [(Refusal, &str); 4] = [
+    (Refusal::NoAtom(4_294_967_295), "2 no atom 4294967295"),
+    (Refusal::TooLarge(Limit::Nodes), "24 too large nodes"),
+    (Refusal::TooLarge(Limit::Steps), "24 too large steps"),
+    (Refusal::NoMemory, "25 no memory"),
+];
+
 #[test]
 fn refusals_have_their_lines(rt: HostRuntime) -> Result<(), Fail> {
-    let cases = [
-        (Refusal::NoAtom(4_294_967_295), "2 no atom 4294967295"),
-        (Refusal::TooLarge(Limit::Nodes), "24 too large nodes"),
-        (Refusal::TooLarge(Limit::Steps), "24 too large steps"),
-        (Refusal::NoMemory, "25 no memory"),
-    ];
-    for (refusal, expected) in cases {
+    for (refusal, expected) in REFUSALS.iter() {
         let mut text = String::new(rt.alloc());
-        refusal_text(rt.alloc(), &refusal, &mut text)?;
-        assert_eq!(rt; text.as_str(), expected);
+        refusal_text(rt.alloc(), refusal, &mut text)?;
+        assert_eq!(rt; text.as_str(), *expected);
     }
     Ok(())
 }
