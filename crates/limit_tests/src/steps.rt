@@ -224,3 +224,29 @@ fn refusals_have_their_lines(rt: HostRuntime) -> Result<(), Fail> {
     }
     Ok(())
 }
+
+/// A program, a script, and the number and refusal of the step that is refused, if there is one.
+static REPLAYS: [(&str, &str, Option<(u32, Refusal)>); 3] = [
+    ("p(X) :- q(X), q(X).", "map script 1. merge 1 at 1,2.", None),
+    ("", "map script 1.", None),
+    (
+        "p(X) :- q(X), q(X).",
+        "map script 1. merge 1 at 1,2. merge 2 at 1,2.",
+        Some((2, Refusal::NoAtom(2))),
+    ),
+];
+
+#[test]
+fn replays_from_texts(rt: HostRuntime) -> Result<(), Fail> {
+    for (program, script, refused) in REPLAYS.iter() {
+        assert!(rt; program.len() < 4096);
+        assert!(rt; script.len() < 4096);
+        let found = match replay(rt.alloc(), program.as_bytes(), script.as_bytes()) {
+            Ok(_) => None,
+            Err(ReplayFault::Refused(number, refusal)) => Some((number, refusal)),
+            Err(_) => Some((0, Refusal::NoMemory)),
+        };
+        assert_eq!(rt; found, *refused, "{program} {script}");
+    }
+    Ok(())
+}
