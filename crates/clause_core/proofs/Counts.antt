@@ -9,9 +9,9 @@ use Rattle.clp_model.specs.declared.tree.Variable.{Variable}
 use Rattle.clp_model.specs.declared.tree.Tree.{Tree}
 use Rattle.clp_model.specs.Trees.{total_size, greatest_depth}
 use Rattle.clp_model.specs.Canonical.{clause_size, clause_depth, variables_met, limit_past, unless_past, new_clause}
+use Rattle.clp_model.proofs.RenamedTrees.{total_size_mapped, greatest_depth_mapped, length_mapped}
 use Rattle.term_store.specs.Trees.{trees_at}
 use Rattle.clause_core.specs.Stored.{number_of, atoms_at, clause_of, IsLarge}
-use Rattle.clause_core.proofs.RenamedTrees.{total_size_mapped, greatest_depth_mapped, length_mapped}
 
 pub length_trees_at : (store : List (Tree Variable)) (terms : List ℕ) → length (trees_at store terms) ≡ length terms
 length_trees_at store [] = refl

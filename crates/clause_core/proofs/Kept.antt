@@ -1,5 +1,5 @@
 -- Clauses in a store that keeps their terms.
-use Rattle.std.proofs.Common.{◌≡◌, ℕ, List, ◌∷◌, All, refl, ap, sym, subst}
+use Rattle.std.proofs.Common.{◌≡◌, ℕ, List, [], ◌∷◌, All, refl, ap, ◌∙◌, sym, subst}
 use Rattle.clp_model.specs.declared.sort.Sort.{Sort}
 use Rattle.clp_model.specs.declared.tree.Variable.{Variable}
 use Rattle.clp_model.specs.declared.tree.Tree.{Tree}
@@ -11,7 +11,13 @@ use Rattle.term_store.proofs.Keeping.{keeps_at, keeps_all, keeps_in}
 use Rattle.clause_core.specs.declared.clause.Clause.{Clause}
 use Rattle.clause_core.specs.declared.clause.RawClause.{RawClause}
 use Rattle.clause_core.specs.Stored.{number_of, atom_at, atoms_at, clause_of, clause_in, raw_in, HasSort, AreParts, IsRaw, IsStored}
-use Rattle.clause_core.proofs.CanonicalForms.{same_plain}
+
+-- a clause without equations and rows
+abbrev plain : Tree ℕ → List (Tree ℕ) → List Sort → Meaning
+plain head body sorts = record { head = head; equations = []; rows = []; body = body; sorts = sorts }
+
+pub same_plain : (h h' : Tree ℕ) (b b' : List (Tree ℕ)) (s s' : List Sort) → h ≡ h' → b ≡ b' → s ≡ s' → plain h b s ≡ plain h' b' s'
+same_plain h h' b b' s s' p q r = ap (λ v. plain v b s) p ∙ ap (λ v. plain h' v s) q ∙ ap (λ v. plain h' b' v) r
 
 pub clause_of_kept : (old new : List (Tree Variable)) (head : ℕ) (atoms : List ℕ) (sorts : List Sort) → Keeps old new → AreIn old (head ∷ atoms) → clause_of new head atoms sorts ≡ clause_of old head atoms sorts
 clause_of_kept old new head atoms sorts keeps within =

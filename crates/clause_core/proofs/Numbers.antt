@@ -8,9 +8,9 @@ use Rattle.clp_model.specs.Trees.{mapped, mapped_all, variables, variables_in}
 use Rattle.clp_model.specs.Predicates.{distinct_after}
 use Rattle.clp_model.specs.Canonical.{variables_met}
 use Rattle.clp_model.proofs.Trees.{mapped_app, mapped_var, variables_app, variables_var}
+use Rattle.clp_model.proofs.Membership.{distinct_append}
 use Rattle.term_store.specs.Trees.{variable}
 use Rattle.clause_core.specs.Stored.{number_of, atom_at, atoms_at}
-use Rattle.clause_core.proofs.Places.{distinct_append}
 
 pub numbers_var : (tree : Tree Variable) (n : ℕ) (s : Sort) → tree ≡ variable n s → variables (mapped number_of tree) ≡ n ∷ []
 numbers_var tree n s is = ap (λ t. variables (mapped number_of t)) is ∙ ap variables (mapped_var number_of (record { number = n; sort = s })) ∙ variables_var n

@@ -1,5 +1,5 @@
 -- The parts of a clause without one of its atoms.
-use Rattle.std.proofs.Common.{ℕ, zero, suc, List, [], ◌∷◌, remove}
+use Rattle.std.proofs.Common.{ℕ, zero, suc, List, [], ◌∷◌, ◌++◌, remove}
 use Rattle.std.specs.List.{AllByRecursion}
 use Rattle.std.proofs.lemmas.List.Elements.{All-from_recursion, recursion_from_All}
 use Rattle.clp_model.specs.declared.sort.Sort.{Sort}
@@ -8,7 +8,19 @@ use Rattle.clp_model.specs.declared.tree.Tree.{Tree}
 use Rattle.clp_model.specs.Trees.{variables, variables_in, IsApplication}
 use Rattle.term_store.specs.Trees.{tree_at, trees_at, AreIn}
 use Rattle.clause_core.specs.Stored.{HasSort, AreParts}
-use Rattle.clause_core.proofs.RenamedTrees.{each_left, each_right, each_both}
+
+module _ {X : Type 0} (P : X → Type 0) where
+  each_left : (xs ys : List X) → AllByRecursion P (xs ++ ys) → AllByRecursion P xs
+  each_left [] ys h = tt
+  each_left (x ∷ xs) ys h = (h.0, each_left xs ys h.1)
+
+  each_right : (xs ys : List X) → AllByRecursion P (xs ++ ys) → AllByRecursion P ys
+  each_right [] ys h = h
+  each_right (x ∷ xs) ys h = each_right xs ys h.1
+
+  each_both : (xs ys : List X) → AllByRecursion P xs → AllByRecursion P ys → AllByRecursion P (xs ++ ys)
+  each_both [] ys h k = k
+  each_both (x ∷ xs) ys h k = (h.0, each_both xs ys h.1 k)
 
 module _ (store : List (Tree Variable)) where
   in_without : (atoms : List ℕ) (j : ℕ) → AreIn store atoms → AreIn store (remove atoms j)

@@ -1,6 +1,3 @@
-pub mod Membership
 pub mod Renaming
-pub mod Trees
-pub mod Canonical
-pub mod Carrying
+pub mod Instances
 pub mod Merging

@@ -8,7 +8,7 @@ use Rattle.clp_model.specs.Clauses.{Clause, Instance, ground_of}
 use Rattle.clp_model.specs.Proof.{InstanceIn, Proof, Node, Proofs, AndProof}
 use Rattle.clp_model.specs.Canonical.{canonical_form}
 use Rattle.clp_meaning.specs.Laws.{HasInstancesOf, without_atom, Replaced, MergeKeepsProvability}
-use Rattle.clp_meaning.proofs.Carrying.{Carries, carried}
+use Rattle.clp_model.proofs.Carrying.{Carries, carried}
 use Rattle.clp_meaning.proofs.Renaming.{canonical_form_keeps_instances}
 
 -- the one list is the other without one place, which holds x

@@ -11,11 +11,7 @@ use Rattle.clp_model.specs.Values.{Named, AndValue, Valuation, variable_value, v
 use Rattle.clp_model.specs.Clauses.{Clause, EquationHolds, RowHolds, sort_in, ground_of}
 use Rattle.clp_model.specs.Canonical.{canonical_form, variables_met, place_in}
 use Rattle.clp_meaning.specs.Laws.{HasNoConstraint, HasInstancesOf, CanonicalFormKeepsInstances}
-use Rattle.clp_meaning.proofs.Membership.{Among, first, among_front, among_back, distinct_has, at_place}
-
-map_same : (ns : List ℕ) → map (λ k. k) ns ≡ ns
-map_same [] = refl
-map_same (n ∷ ns) = ap (λ ms. n ∷ ms) (map_same ns)
+use Rattle.clp_model.proofs.Membership.{Among, first, among_front, among_back, distinct_has, at_place, at_own_place}
 
 -- a renamed tree has the value of the tree, where each of its variables has the value of its image
 module _ (f : ℕ → ℕ) (sort sort' : ℕ → Sort) (u u' : Valuation) where
@@ -98,8 +94,7 @@ module _ (c : Clause) (none : HasNoConstraint c) where
       let g : ℕ → ℕ = λ n. slice_index_or (0 ∷ met) n 0 in
       let u' = i.valuation in
       let u = taken_along g u' in
-      let returns : (n : ℕ) → Among n met → g (f n) ≡ n =
-      λ n m. ap (λ ms. slice_index_or (0 ∷ ms) (f n) 0) (sym (map_same met)) ∙ at_place (λ k. k) met n 0 0 m in
+      let returns : (n : ℕ) → Among n met → g (f n) ≡ n = at_own_place met in
       let same : (n : ℕ) → Among n (variables_in (c.head ∷ c.body)) → variable_value u (f n) (sort_in images (f n)) ≡ variable_value u' n (sort_in c.sorts n) =
       λ n m. ap (λ s. variable_value u (f n) s) (sort_kept n (met_has n m))
       ∙ (sym (moved u' g (f n) (sort_in c.sorts n)) ∙ ap (λ k. variable_value u' k (sort_in c.sorts n)) (returns n (met_has n m))) in

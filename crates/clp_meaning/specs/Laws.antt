@@ -1,8 +1,9 @@
 -- What keeps instances, and what keeps provability.
 use Rattle.std.specs.Prelude.{◌≡◌, ◌≢◌, ◌⊎◌, ◌↔◌, ℕ, ◌<◌, List, [], Contains, length, slice_index_or, remove, Ok}
 use Rattle.clp_model.specs.declared.tree.Tree.{Tree}
+use Rattle.clp_model.specs.declared.clause.SourceClause.{SourceClause}
 use Rattle.clp_model.specs.Values.{GroundAtom}
-use Rattle.clp_model.specs.Clauses.{Clause, Instance}
+use Rattle.clp_model.specs.Clauses.{Clause, Instance, of_source}
 use Rattle.clp_model.specs.Proof.{Provable}
 use Rattle.clp_model.specs.Canonical.{canonical_form, new_clause, IsCanonical}
 
@@ -11,13 +12,20 @@ pub record HasNoConstraint (c : Clause) : Type 0 where
   pub equations : c.equations ≡ []
   pub rows : c.rows ≡ []
 
--- each instance of the one is an instance of the other
+-- each instance of d is an instance of c
 abbrev pub HasInstancesOf : Clause → Clause → Type 0
 HasInstancesOf c d = (a : GroundAtom) (body : List GroundAtom) → Instance d a body → Instance c a body
 
+abbrev pub HaveSameInstances : Clause → Clause → Type 0
+HaveSameInstances c d = HasInstancesOf c d × HasInstancesOf d c
+
 abbrev pub CanonicalFormKeepsInstances : Type 0
-CanonicalFormKeepsInstances =
-    (c : Clause) → HasNoConstraint c → HasInstancesOf (canonical_form c) c × HasInstancesOf c (canonical_form c)
+CanonicalFormKeepsInstances = (c : Clause) → HasNoConstraint c → HaveSameInstances (canonical_form c) c
+
+-- the clause that a source clause is loaded as
+abbrev pub LoadedClauseKeepsInstances : Type 0
+LoadedClauseKeepsInstances =
+    (s : SourceClause) (c : Clause) → new_clause (of_source s) ≡ Ok c → HaveSameInstances c (of_source s)
 
 -- what a new clause becomes is its canonical form, which is canonical and within the limits
 abbrev pub NewClauseIsCanonical : Type 0

@@ -3,7 +3,7 @@
 //! the contract of an empty function.
 #![tactic(auto)]
 
-ghost use Rattle.clp_meaning.specs.Laws.{NewClauseIsCanonical, CanonicalClauseStays, CanonicalFormKeepsInstances, SameInstancesKeepProvability, MergeKeepsProvability};
+ghost use Rattle.clp_meaning.specs.Laws.{NewClauseIsCanonical, CanonicalClauseStays, CanonicalFormKeepsInstances, LoadedClauseKeepsInstances, SameInstancesKeepProvability, MergeKeepsProvability};
 
 /// What is made of a new clause is its canonical form, which is canonical again and within the limits.
 pub fn new_clause_is_canonical()
@@ -18,6 +18,12 @@ pub fn canonical_clause_stays()
 /// The canonical form of a clause has the same instances: numbering its variables anew changes none.
 pub fn canonical_form_keeps_instances()
     ensures { CanonicalFormKeepsInstances }
+{}
+
+/// A source clause and the clause that it is loaded as have the same instances: a valuation of the one is carried
+/// along to the other.
+pub fn loaded_clause_keeps_instances()
+    ensures { LoadedClauseKeepsInstances }
 {}
 
 /// Programs whose clauses have the same instances prove the same ground atoms.

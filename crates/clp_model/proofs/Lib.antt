@@ -1,1 +1,5 @@
 pub mod Trees
+pub mod Membership
+pub mod RenamedTrees
+pub mod CanonicalForms
+pub mod Carrying

@@ -1,5 +1,5 @@
 -- What a program is loaded as.
-use Rattle.std.proofs.Common.{◌≡◌, ℕ, suc, ◌+◌, ◌≤◌, List, [], ◌∷◌, ◌++◌, length, refl, sym, ◌∙◌, ap, map, arith, Bool, true, false, append_assoc}
+use Rattle.std.proofs.Common.{◌≡◌, ℕ, suc, ◌+◌, ◌≤◌, List, [], ◌∷◌, ◌++◌, length, refl, sym, ◌∙◌, ap, subst, map, arith, Bool, true, false, append_assoc, append-nil}
 use Rattle.std.specs.Prelude.{Option, Some, Result, Ok, Err, All, nat_lt, if◌then◌else◌}
 use Rattle.std.proofs.lemmas.Bool.{ltb-false, le-ltb}
 use Rattle.std.proofs.lemmas.List.Elements.{All-nil, All-cons, All-head, All-tail, All-weaker}
@@ -17,8 +17,10 @@ use Rattle.clp_syntax.specs.Readable.{IsPlainAtom, IsReadable, AreReadable, IsPr
 use Rattle.clp_syntax.specs.WellFormed.{IsWellFormed}
 use Rattle.clp_syntax.proofs.Programs.{program_again}
 use Rattle.clp_syntax.specs.Load.{Program, sizes_of, counted, loaded_after, with_predicates, load}
-use Rattle.clp_meaning.proofs.Membership.{Among, first, next}
-use Rattle.clp_meaning.proofs.Canonical.{canonical_is_new}
+use Rattle.clp_syntax.specs.Instances.{HaveInstancesOf, LoadingKeepsInstances}
+use Rattle.clp_meaning.proofs.Instances.{loaded_clause_keeps_instances}
+use Rattle.clp_model.proofs.Membership.{Among, first, next}
+use Rattle.clp_model.proofs.CanonicalForms.{canonical_is_new}
 
 -- each of the clauses was made of the source clause at its place
 pub data Made : List Clause → List Clause → Type 0 where
@@ -37,10 +39,6 @@ pub record Rest (found : List (Option Clause)) (nodes : ℕ) (source : List Clau
   pub made : Made source clauses
   pub is : all ≡ found ++ map Some clauses
   pub small : nodes + sizes_of clauses ≤ 8388608
-
-add_nil : {A : Type 0} (xs : List A) → xs ++ [] ≡ xs
-add_nil [] = refl
-add_nil (x ∷ xs) = ap (λ ys. x ∷ ys) (add_nil xs)
 
 step : (found : List (Option Clause)) (nodes : ℕ) (c : Clause) (cs : List Clause) (all : List (Option Clause))
     → ((d : Clause) → nodes + clause_size d ≤ 8388608 → loaded_after (found ++ Some d ∷ []) (nodes + clause_size d) cs ≡ Ok all → Rest (found ++ Some d ∷ []) (nodes + clause_size d) cs all)
@@ -62,7 +60,7 @@ step found nodes c cs all again (Ok d) er h = by (nat_lt 8388608 (nodes + clause
 
 rest_of : (found : List (Option Clause)) (nodes : ℕ) (source : List Clause) (all : List (Option Clause)) → nodes ≤ 8388608 → loaded_after found nodes source ≡ Ok all → Rest found nodes source all
 rest_of found nodes [] all small h =
-    record { clauses = []; made = nothing; is = sym (limit_ok found all h) ∙ sym (add_nil found); small = omega (arith, small) }
+    record { clauses = []; made = nothing; is = sym (limit_ok found all h) ∙ sym (append-nil found); small = omega (arith, small) }
 rest_of found nodes (c ∷ cs) all small h =
     step found nodes c cs all (λ d s g. rest_of (found ++ Some d ∷ []) (nodes + clause_size d) cs all s g) (new_clause c) refl h
 
@@ -119,9 +117,20 @@ back nothing m = elim m [ ]
 back (one_more {c} {d} {cs} {ds} e made) first = (c, first, e)
 back (one_more {c} {d} {cs} {ds} e made) (next n) = let x = back made n in (x.0, next x.1, x.2)
 
+-- ---- a program is loaded with its instances
+instances_made : (source : List SourceClause) (clauses : List Clause) → Made (map of_source source) clauses → HaveInstancesOf (map Some clauses) source
+instances_made [] [] nothing = tt
+instances_made (s ∷ source) (c ∷ clauses) (one_more e made) = (loaded_clause_keeps_instances s c e, instances_made source clauses made)
+
+pub loading_keeps_instances : LoadingKeepsInstances
+loading_keeps_instances source p h =
+    let l = loaded (map of_source source) p h in
+    let P : List (Option Clause) → Type 0 = λ cs. HaveInstancesOf cs source in
+    subst P (sym l.is) (instances_made source l.clauses l.made)
+
 -- ---- a program of canonical clauses within the limits is loaded as it is
 again : (found : List (Option Clause)) (nodes : ℕ) (cs : List Clause) → All IsCanonical cs → nodes + sizes_of cs ≤ 8388608 → loaded_after found nodes cs ≡ Ok (found ++ map Some cs)
-again found nodes [] h small = ap Ok (sym (add_nil found))
+again found nodes [] h small = ap Ok (sym (append-nil found))
 again found nodes (c ∷ cs) h small =
     ap (counted nodes (λ d more. loaded_after (found ++ Some d ∷ []) more cs)) (canonical_is_new c (All-head IsCanonical c cs h))
     ∙ (ap (λ b. if b then Err Nodes else loaded_after (found ++ Some c ∷ []) (nodes + clause_size c) cs) (le-ltb 8388608 (nodes + clause_size c) (omega (arith, small)))

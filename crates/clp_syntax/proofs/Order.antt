@@ -13,6 +13,7 @@ use Rattle.clp_model.specs.declared.tree.Tree.{Tree, Var, App', Row_of-Tree, end
 use Rattle.clp_model.specs.Trees.{variables, variables_in_row, variables_in, mapped, mapped_row, mapped_all, greatest_depth}
 use Rattle.clp_model.specs.Clauses.{Clause, sort_in}
 use Rattle.clp_model.specs.Predicates.{with_element, distinct_after}
+use Rattle.clp_model.proofs.RenamedTrees.{all_variables_mapped}
 use Rattle.clp_model.specs.Canonical.{place_in, variables_met, canonical_form, clause_size, clause_depth, limit_past, IsCanonical}
 
 -- ---- numbers in the order in which they are met
@@ -105,23 +106,6 @@ in_order (n ∷ ns) k found e m =
 
 -- ---- clauses
 
-mutual
-  unfolding variables mapped
-
-  variables_mapped : {V W : Type 0} (f : V → W) (t : Tree V) → variables (mapped f t) ≡ map f (variables t)
-  variables_mapped f (Var v) = refl
-  variables_mapped f (App' name shape args) = variables_row f args
-
-  variables_row : {V W : Type 0} {m : _} (f : V → W) (ts : Row_of-Tree V m) → variables_in_row (mapped_row f ts) ≡ map f (variables_in_row ts)
-  variables_row f end_of-Tree = refl
-  variables_row f (more_of-Tree t ts) =
-      ap (λ z. z ++ variables_in_row (mapped_row f ts)) (variables_mapped f t) ∙ ap (λ z. map f (variables t) ++ z) (variables_row f ts) ∙ sym (map-append f (variables t) (variables_in_row ts))
-
-variables_all : {V W : Type 0} (f : V → W) (ts : List (Tree V)) → variables_in (mapped_all f ts) ≡ map f (variables_in ts)
-variables_all f [] = refl
-variables_all f (t ∷ ts) =
-    ap (λ z. z ++ variables_in (mapped_all f ts)) (variables_mapped f t) ∙ ap (λ z. map f (variables t) ++ z) (variables_all f ts) ∙ sym (map-append f (variables t) (variables_in ts))
-
 -- what its canonical form says of a clause
 pub record HasOrder (c : Clause) : Type 0 where
   pub order : InOrder 0 (variables_in (c.head ∷ c.body))
@@ -142,7 +126,7 @@ canonical_order c canonical =
     let vs = variables_in (c.head ∷ c.body) in
     let head = ap (λ (c : Clause). c.head) canonical.form in
     let body = ap (λ (c : Clause). c.body) canonical.form in
-    let named : map (place_in met) vs ≡ vs = sym (variables_all (place_in met) (c.head ∷ c.body)) ∙ ap (λ t. variables t ++ variables_in (mapped_all (place_in met) c.body)) head ∙ ap (λ ts. variables c.head ++ variables_in ts) body in
+    let named : map (place_in met) vs ≡ vs = sym (all_variables_mapped (place_in met) (c.head ∷ c.body)) ∙ ap (λ t. variables t ++ variables_in (mapped_all (place_in met) c.body)) head ∙ ap (λ ts. variables c.head ++ variables_in ts) body in
     let r = in_order vs 0 [] refl named in
     let limits = within (clause_size c) (clause_depth c) (length c.body) (length met) (length c.rows) canonical.limits in
     let sorts : length c.sorts ≡ length met = sym (ap (λ (c : Clause). length c.sorts) canonical.form) ∙ length-map met (sort_in c.sorts) in

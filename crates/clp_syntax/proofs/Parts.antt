@@ -12,8 +12,8 @@ use Rattle.clp_model.specs.declared.clause.SourceClause.{SourceClause}
 use Rattle.clp_model.specs.Trees.{size, depth, total_size, greatest_depth, mapped, mapped_row, mapped_all, variables_in, IsApplication}
 use Rattle.clp_model.specs.Clauses.{Clause as Meaning, of_source}
 use Rattle.clp_model.specs.Canonical.{clause_size, clause_depth, limit_past, unless_past, new_clause}
-use Rattle.clp_meaning.proofs.Trees.{all_variables_mapped}
-use Rattle.clp_meaning.proofs.Canonical.{limits_of}
+use Rattle.clp_model.proofs.RenamedTrees.{all_variables_mapped}
+use Rattle.clp_model.proofs.CanonicalForms.{limits_of}
 use Rattle.term_store.specs.Trees.{trees_at, HasTree, HaveTrees, IsOver}
 use Rattle.clause_core.specs.declared.clause.Clause.{Clause}
 use Rattle.clause_core.specs.declared.fault.ClauseFault.{ClauseFault}

@@ -6,5 +6,6 @@ pub mod Listed
 pub mod WellFormed
 pub mod Sorted
 pub mod Load
+pub mod Instances
 pub mod Loaded
 pub mod Found

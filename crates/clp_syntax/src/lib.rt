@@ -14,7 +14,9 @@ mod reader;
 mod term;
 mod text_error;
 
-pub use laws::{printed_programs_are_loaded_again, what_is_read_is_well_formed};
+pub use laws::{
+    loading_keeps_instances, printed_programs_are_loaded_again, what_is_read_is_well_formed,
+};
 pub use loading::{LoadFault, Loaded, load};
 pub use print::print_clause;
 pub use program::{printed_clauses_are_read_again, read_program, what_is_read_is_readable};

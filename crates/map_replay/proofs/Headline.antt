@@ -17,7 +17,7 @@ use Rattle.clp_syntax.specs.Readable.{IsReadable, AreReadable, IsPrintable}
 use Rattle.clp_syntax.proofs.Readable.{program_readable}
 use Rattle.clp_syntax.proofs.Programs.{program_again}
 use Rattle.clp_meaning.specs.Laws.{HasNoConstraint}
-use Rattle.clp_meaning.proofs.Canonical.{new_clause_is_canonical}
+use Rattle.clp_model.proofs.CanonicalForms.{new_clause_is_canonical}
 use Rattle.map_replay.specs.declared.replay_fault.ReplayFault.{ReplayFault}
 use Rattle.map_replay.specs.declared.replay_fault.ReplayFault.TheVariants as fault
 use Rattle.clp_syntax.specs.declared.loading.LoadFault.TheVariants.{TooLarge}

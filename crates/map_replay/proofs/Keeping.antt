@@ -7,8 +7,8 @@ use Rattle.clp_model.specs.Clauses.{Clause}
 use Rattle.clp_model.specs.Proof.{Provable}
 use Rattle.clp_model.specs.Canonical.{canonical_form, IsCanonical}
 use Rattle.clp_meaning.specs.Laws.{HasNoConstraint, without_atom, Replaced}
-use Rattle.clp_meaning.proofs.Membership.{Among, first, next, to_among, from_among, among_front, among_back, among_either}
-use Rattle.clp_meaning.proofs.Canonical.{new_clause_is_canonical}
+use Rattle.clp_model.proofs.Membership.{Among, first, next, to_among, from_among, among_front, among_back, among_either}
+use Rattle.clp_model.proofs.CanonicalForms.{new_clause_is_canonical}
 use Rattle.clp_meaning.proofs.Merging.{merge_keeps_provability}
 use Rattle.map_replay.specs.declared.step.Step.{Step}
 use Rattle.map_replay.specs.declared.refusal.Refusal.{Refusal}

@@ -2,7 +2,7 @@
 use Rattle.std.proofs.Common.{◌≡◌, ℕ, zero, suc, List, [], ◌∷◌, ◌++◌, refl, ◌∙◌, ap, subst, ◌⊎◌, inl, inr, Bool, true, false}
 use Rattle.std.specs.Prelude.{Option, Some, None, slice_index_or, if◌then◌else◌}
 use Rattle.clp_model.specs.Clauses.{Clause}
-use Rattle.clp_meaning.proofs.Membership.{Among, first, next}
+use Rattle.clp_model.proofs.Membership.{Among, first, next}
 use Rattle.map_replay.specs.State.{Entry, clauses_where, is_live}
 use Rattle.map_replay.specs.After.{changed_at, dead_entry}
 

@@ -7,7 +7,8 @@ use Rattle.clause_core.specs.Stored.{clause_in}
 use Rattle.map_replay.specs.declared.step.Step.{Step}
 use Rattle.map_replay.specs.declared.state.Entry.{Entry as Row}
 use Rattle.map_replay.specs.State.{is_live, clauses_where, loaded_entry, start_state, total_nodes}
-use Rattle.map_replay.specs.Seen.{Trees, Seen, IsSound, AllStored, AllClausesStored, state_of, entries_in, clauses_in}
+use Rattle.clp_syntax.specs.Loaded.{clauses_in, AreStored}
+use Rattle.map_replay.specs.Seen.{Trees, Seen, IsSound, AllStored, state_of, entries_in}
 use Rattle.map_replay.specs.Rows.{loaded_row, count_of}
 
 in_loaded : (store : Trees) (cs : List (Option Kept)) → entries_in store (map loaded_row cs) ≡ map (option_map loaded_entry) (clauses_in store cs)
@@ -15,7 +16,7 @@ in_loaded store [] = refl
 in_loaded store (None ∷ cs) = ap (λ es. None ∷ es) (in_loaded store cs)
 in_loaded store (Some c ∷ cs) = ap (λ es. Some (loaded_entry (clause_in store c)) ∷ es) (in_loaded store cs)
 
-stored_loaded : (store : Trees) (cs : List (Option Kept)) → AllClausesStored store cs → AllStored store (map loaded_row cs)
+stored_loaded : (store : Trees) (cs : List (Option Kept)) → AreStored store cs → AllStored store (map loaded_row cs)
 stored_loaded store [] s = tt
 stored_loaded store (None ∷ cs) s = stored_loaded store cs s
 stored_loaded store (Some c ∷ cs) s = (s.0, stored_loaded store cs s.1)
@@ -45,7 +46,7 @@ module _ (store : Trees) (cs : List (Option Kept)) (preds : List Pred) (seen : S
   pub begun_state : state_of seen ≡ start_state (clauses_in store cs) preds
   begun_state = let a = begun_entries in let b = is.initials in let d = is.history in let e = is.nodes in cc
 
-  pub begun_sound : AllClausesStored store cs → length cs ≤ 4096 → count_of cs ≤ 4096 → total_nodes (clauses_in store cs) ≤ 8388608 → IsSound seen
+  pub begun_sound : AreStored store cs → length cs ≤ 4096 → count_of cs ≤ 4096 → total_nodes (clauses_in store cs) ≤ 8388608 → IsSound seen
   begun_sound stored few count nodes =
       let P : List (Option Row) → Type 0 = AllStored seen.store in
       let Q : Trees → Type 0 = λ st. AllStored st (map loaded_row cs) in

@@ -13,37 +13,12 @@ use Rattle.clp_model.specs.declared.tree.Tree.{Tree, Var, App, App', Row_of-Tree
 use Rattle.clp_model.specs.Trees.{mapped, variables, variables_in}
 use Rattle.clp_model.specs.Clauses.{sort_in}
 use Rattle.clp_model.proofs.Trees.{out_app}
-use Rattle.clp_meaning.proofs.Membership.{Among, first, next, from_among, among_front, among_back}
-use Rattle.clp_meaning.proofs.Trees.{mapped_twice}
+use Rattle.clp_model.proofs.Membership.{Among, all_among, from_among, among_front, among_back}
+use Rattle.clp_model.proofs.RenamedTrees.{mapped_twice, mapped_to_itself}
 use Rattle.term_store.specs.Trees.{tree_at, trees_at, AreIn}
 use Rattle.clause_core.specs.Stored.{number_of, atoms_at, HasSort}
-use Rattle.clause_core.proofs.RenamedTrees.{mapped_same}
 use Rattle.map_replay.specs.SameTree.{same_tree, same_trees}
-
-both : (a b : Bool) → (a && b) ≡ true → (a ≡ true) × (b ≡ true)
-both true b h = (refl, h)
-both false b h = cc
-
-mutual
-  unfolding same_tree
-
-  pub same_is : (t u : Tree ℕ) → same_tree t u ≡ true → t ≡ u
-  same_is (Var n) (Var m) h = ap Var (eqb-true n m h)
-  same_is (App' f shape xs) (App' g shape' ys) h =
-      let p = both (bytes_eq f g) (same_trees xs ys) h in
-      sym (out_app f shape xs) ∙ ap (App f) (same_all_is _ xs _ ys p.1) ∙ ap (λ n. App n (items-the_row-Tree ℕ _ ys)) ((bytes_eq-Decides f g).0 p.0) ∙ out_app g shape' ys
-  same_is (Var n) (App' g shape' ys) h = cc
-  same_is (App' f shape xs) (Var m) h = cc
-
-  same_all_is : (m : _) (xs : Row_of-Tree ℕ m) (n : _) (ys : Row_of-Tree ℕ n) → same_trees xs ys ≡ true → items-the_row-Tree ℕ m xs ≡ items-the_row-Tree ℕ n ys
-  same_all_is m end_of-Tree n end_of-Tree h = refl
-  same_all_is m (more_of-Tree t ts) n (more_of-Tree u us) h =
-      let p = both (same_tree t u) (same_trees ts us) h in
-      let a = same_is t u p.0 in
-      let b = same_all_is _ ts _ us p.1 in
-      cc
-  same_all_is m end_of-Tree n (more_of-Tree u us) h = cc
-  same_all_is m (more_of-Tree t ts) n end_of-Tree h = cc
+use Rattle.map_replay.proofs.SameTree.{same_tree_is}
 
 mutual
   unfolding same_tree
@@ -66,7 +41,7 @@ has_itself sorts v h = let f : Sort → Variable = λ s. record { number = v.num
 -- a tree whose variables have their sorts is known by its numbers
 numbers_tell : (sorts : List Sort) (t : Tree Variable) → All (HasSort sorts) (variables t) → mapped (sorted_variable sorts) (mapped number_of t) ≡ t
 numbers_tell sorts t h =
-    mapped_twice number_of (sorted_variable sorts) (λ v. v) t (λ v among. has_itself sorts v (All-contains (HasSort sorts) (variables t) v h (from_among among))) ∙ mapped_same t
+    mapped_twice number_of (sorted_variable sorts) (λ v. v) t (λ v among. has_itself sorts v (All-contains (HasSort sorts) (variables t) v h (from_among among))) ∙ mapped_to_itself (λ v. v) t (λ v among. refl)
 
 same_numbers : (sorts : List Sort) (t u : Tree Variable) → All (HasSort sorts) (variables t) → All (HasSort sorts) (variables u) → mapped number_of t ≡ mapped number_of u → t ≡ u
 same_numbers sorts t u h k e = sym (numbers_tell sorts t h) ∙ ap (mapped (sorted_variable sorts)) e ∙ numbers_tell sorts u k
@@ -81,7 +56,7 @@ pub same_decided : (sorts : List Sort) (t u : Tree Variable) (r : Bool) → All 
 same_decided sorts t u r h k d =
     decided r (same_tree (mapped number_of t) (mapped number_of u)) (t ≡ u) d
     (λ e. ap (λ x. same_tree (mapped number_of t) (mapped number_of x)) (sym e) ∙ same_self (mapped number_of t))
-    (λ e. same_numbers sorts t u h k (same_is (mapped number_of t) (mapped number_of u) e))
+    (λ e. same_numbers sorts t u h k (same_tree_is (mapped number_of t) (mapped number_of u) e))
 
 -- ---- the atoms of a clause
 pub length_atoms : (store : List (Tree Variable)) (terms : List ℕ) → length (atoms_at store terms) ≡ length terms
@@ -106,11 +81,7 @@ among_all store (u ∷ us) zero t v h e a =
     among_front v (variables (tree_at store u)) (variables_in (trees_at store us)) (subst P e a)
 among_all store (u ∷ us) (suc i) t v h e a = among_back v (variables (tree_at store u)) (variables_in (trees_at store us)) (among_all store us i t v (omega arith) e a)
 
-all_by : {A : Type 0} (P : A → Type 0) (xs : List A) → ((x : A) → Among x xs → P x) → AllByRecursion P xs
-all_by P [] h = tt
-all_by P (x ∷ xs) h = (h x first, all_by P xs (λ y a. h y (next a)))
-
 pub term_sorted : (sorts : List Sort) (store : List (Tree Variable)) (head : ℕ) (terms : List ℕ) (i t : ℕ) → All (HasSort sorts) (variables_in (trees_at store (head ∷ terms))) → i < length terms → t ≡ get_or terms i t
     → All (HasSort sorts) (variables (tree_at store t))
-term_sorted sorts store head terms i t h k e = All-from_recursion (HasSort sorts) (variables (tree_at store t)) (all_by (HasSort sorts) (variables (tree_at store t))
+term_sorted sorts store head terms i t h k e = All-from_recursion (HasSort sorts) (variables (tree_at store t)) (all_among (HasSort sorts) (variables (tree_at store t))
     (λ v a. All-contains (HasSort sorts) (variables_in (trees_at store (head ∷ terms))) v h (from_among (among_back v (variables (tree_at store head)) (variables_in (trees_at store terms)) (among_all store terms i t v k e a)))))

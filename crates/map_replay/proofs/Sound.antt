@@ -5,7 +5,7 @@ use Rattle.clp_model.specs.Clauses.{Clause}
 use Rattle.clp_model.specs.Canonical.{clause_size}
 use Rattle.clp_syntax.specs.Load.{sizes_of}
 use Rattle.clp_meaning.specs.Laws.{without_atom}
-use Rattle.clp_meaning.proofs.Canonical.{new_clause_is_canonical}
+use Rattle.clp_model.proofs.CanonicalForms.{new_clause_is_canonical}
 use Rattle.map_replay.specs.State.{Entry, State, live_clauses, live_count}
 use Rattle.map_replay.specs.After.{changed_at, dead_entry, run}
 use Rattle.map_replay.specs.declared.step.Step.{Step}

@@ -18,10 +18,10 @@ use Rattle.clp_syntax.specs.Load.{Program, sizes_of, load}
 use Rattle.clp_syntax.proofs.LoadedPrograms as loading
 use Rattle.clp_syntax.proofs.LoadedPrograms.{Made, IsLoaded, there, back, length_made}
 use Rattle.clp_meaning.specs.Laws.{HasNoConstraint, HasInstancesOf}
-use Rattle.clp_meaning.proofs.Membership.{to_among, from_among}
-use Rattle.clp_meaning.proofs.Canonical.{new_clause_is_canonical}
+use Rattle.clp_model.proofs.Membership.{to_among, from_among}
+use Rattle.clp_model.proofs.CanonicalForms.{new_clause_is_canonical}
 use Rattle.clp_meaning.proofs.Renaming.{canonical_form_keeps_instances}
-use Rattle.clp_meaning.proofs.Carrying.{same_instances_keep_provability}
+use Rattle.clp_meaning.proofs.Instances.{same_instances_keep_provability}
 use Rattle.map_replay.specs.State.{live_clauses, total_nodes, start_state}
 
 -- ---- the start state of a loaded program

@@ -32,9 +32,6 @@ entry_in store e =
 abbrev pub entries_in : Trees → List (Option Row) → List (Option Entry)
 entries_in store rows = map (option_map (entry_in store)) rows
 
-abbrev pub clauses_in : Trees → List (Option Kept) → List (Option Clause)
-clauses_in store clauses = map (option_map (clause_in store)) clauses
-
 -- the state that the parts stand for; there are no kept definitions yet
 abbrev pub state_of : Seen → State
 state_of seen =
@@ -51,11 +48,6 @@ abbrev pub AllStored : Trees → List (Option Row) → Type 0
 AllStored store [] = Unit {0}
 AllStored store (None ∷ rows) = AllStored store rows
 AllStored store (Some e ∷ rows) = IsStored store e.clause × AllStored store rows
-
-abbrev pub AllClausesStored : Trees → List (Option Kept) → Type 0
-AllClausesStored store [] = Unit {0}
-AllClausesStored store (None ∷ clauses) = AllClausesStored store clauses
-AllClausesStored store (Some c ∷ clauses) = IsStored store c × AllClausesStored store clauses
 
 -- what is true of every state
 pub record IsSound (seen : Seen) : Type 0 where

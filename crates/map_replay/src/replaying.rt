@@ -4,7 +4,8 @@ ghost use Rattle.std.specs.Prelude.{◌≡◌, ◌⊎◌, ℕ, ◌+◌, ◌-◌,
 ghost use Rattle.clp_syntax.specs.Loaded.{program_of, AreStored};
 ghost use Rattle.map_replay.specs.State.{State as S, start_state, total_nodes};
 ghost use Rattle.map_replay.specs.After.{run};
-ghost use Rattle.map_replay.specs.Seen.{state_of, clauses_in};
+ghost use Rattle.clp_syntax.specs.Loaded.{clauses_in};
+ghost use Rattle.map_replay.specs.Seen.{state_of};
 ghost use Rattle.map_replay.specs.Replay.{opened, scripted, replayed, output, StopsAt, StopsWithin};
 ghost use Rattle.map_replay.specs.Headline.{KeepsProvability};
 

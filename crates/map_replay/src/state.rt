@@ -5,7 +5,8 @@ ghost use Rattle.clp_model.specs.Predicates.{same_predicate};
 ghost use Rattle.clause_core.specs.Stored.{IsStored};
 ghost use Rattle.map_replay.specs.State.{start_state, total_nodes, entry_at, live_ids_of};
 ghost use Rattle.map_replay.specs.After.{state_limit, changed_at};
-ghost use Rattle.map_replay.specs.Seen.{state_of, entry_in, clauses_in, AllClausesStored};
+ghost use Rattle.clp_syntax.specs.Loaded.{clauses_in, AreStored};
+ghost use Rattle.map_replay.specs.Seen.{state_of, entry_in};
 ghost use Rattle.map_replay.specs.Changes.{IsChange, changed, IsReady, ready_state, AllMade, made_entry};
 ghost use Rattle.map_replay.specs.Rows.{dead_row, rows_killed, AllIds, loaded_row, count_of, nodes_of_made, AreMade, is_live_row};
 ghost use Rattle.term_store.specs.Trees.{Keeps};
@@ -71,7 +72,7 @@ impl State {
         clauses: Vec<Option<Clause>>,
         preds: Items<Pred>,
     ) -> Result<State, NoMemory>
-        requires stored { AllClausesStored store clauses.items }
+        requires stored { AreStored store clauses.items }
         requires places { vec_len clauses ≤ 4096 }
         requires nodes { total_nodes (clauses_in store clauses.items) ≤ 8388608 }
         ensures { IfOk result (λ s. state_of s ≡ start_state (clauses_in store clauses.items) preds) }
@@ -275,7 +276,7 @@ fn present_count(clauses: &[Option<Clause>]) -> u32
 
 /// The sizes of the clauses together.
 fn total_size(store: &Store, clauses: &[Option<Clause>]) -> u32
-    requires stored { AllClausesStored store.now clauses.now }
+    requires stored { AreStored store.now clauses.now }
     requires few { length clauses.now ≤ 4096 }
     ensures { result ≡ total_nodes (clauses_in store.now clauses.now) }
 {

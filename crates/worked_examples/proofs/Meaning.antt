@@ -8,7 +8,7 @@ use Rattle.clp_model.specs.declared.tree.Tree.{Var, App}
 use Rattle.clp_model.specs.Values.{Value, Number, Named, Values, NoValue, AndValue, GroundAtom, Valuation, value_of, atom_of}
 use Rattle.clp_model.specs.Clauses.{Clause, Instance, ground_of, sort_in, RowHolds, EquationHolds}
 use Rattle.clp_model.specs.Proof.{Proof, Node, Proofs, NoProof, AndProof, Provable, InstanceIn}
-use Rattle.clp_meaning.proofs.Membership.{Among, first, next, to_among}
+use Rattle.clp_model.proofs.Membership.{Among, first, next, to_among}
 use Rattle.worked_examples.specs.Samples.{f, p, q, a, b, constant, ground, one_goal, fact, two_clauses}
 use Rattle.worked_examples.specs.Instances.{EquationAtA, EquationAtB, InstanceAtA, NoInstance, ProofOfTwoNodes, NotProvable, NotProvableAbove}
 use Rattle.worked_examples.proofs.Values.{value_app, value_var}

@@ -1,4 +1,4 @@
-use Rattle.clp_meaning.proofs.Carrying.{same_instances_keep_provability}
+use Rattle.clp_meaning.proofs.Instances.{same_instances_keep_provability}
 use Rattle.clp_meaning.proofs.same_instances_keep_provability.Goals as goal
 
 pub returns : goal.returns

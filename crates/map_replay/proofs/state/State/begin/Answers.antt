@@ -3,7 +3,8 @@ use Rattle.std.specs.Prelude.{vec_capacity}
 use Rattle.clause_core.specs.declared.clause.Clause.{Clause}
 use Rattle.map_replay.specs.Rows.{count_of}
 use Rattle.map_replay.specs.State.{total_nodes}
-use Rattle.map_replay.specs.Seen.{Seen, clauses_in}
+use Rattle.clp_syntax.specs.Loaded.{clauses_in}
+use Rattle.map_replay.specs.Seen.{Seen}
 use Rattle.map_replay.proofs.Loading.{begun_state, begun_sound}
 use Rattle.map_replay.proofs.state.State.begin.Goals as goal
 

@@ -1,8 +1,9 @@
--- Membership in lists as data, and the list of the distinct numbers.
-use Rattle.std.proofs.Common.{◌≡◌, ℕ, zero, suc, List, [], ◌∷◌, ◌++◌, refl, ap, subst, arith, ◌⊎◌, inl, inr, Bool, true, false, map, eq-eqb}
+-- Membership in lists as data, the list of the distinct numbers, and the places of numbers in it.
+use Rattle.std.proofs.Common.{◌≡◌, ℕ, zero, suc, List, [], ◌∷◌, ◌++◌, refl, ap, ◌∙◌, sym, subst, arith, ◌⊎◌, inl, inr, Bool, true, false, map, eq-eqb}
 use Rattle.std.specs.Prelude.{Contains, nat_eq, if◌then◌else◌, slice_index_or, ◌||◌}
-use Rattle.std.specs.List.{list_any}
+use Rattle.std.specs.List.{list_any, AllByRecursion}
 use Rattle.std.proofs.lemmas.Bool.{eqb-true}
+use Rattle.std.proofs.lemmas.List.{map-id}
 use Rattle.clp_model.specs.Predicates.{with_element, distinct_after}
 use Rattle.clp_model.specs.Canonical.{place_in}
 
@@ -36,6 +37,14 @@ pub among_either : {A : Type 0} (x : A) (xs ys : List A) → Among x (xs ++ ys) 
 among_either x [] ys m = inr m
 among_either x (y ∷ xs) ys first = inl first
 among_either x (y ∷ xs) ys (next m) = elim (among_either x xs ys m) [ inl a ↦ inl (next a) | inr b ↦ inr b ]
+
+pub among_mapped : {A B : Type 0} (f : A → B) {x : A} {xs : List A} → Among x xs → Among (f x) (map f xs)
+among_mapped f first = first
+among_mapped f (next m) = next (among_mapped f m)
+
+pub all_among : {A : Type 0} (P : A → Type 0) (xs : List A) → ((x : A) → Among x xs → P x) → AllByRecursion P xs
+all_among P [] h = tt
+all_among P (x ∷ xs) h = (h x first, all_among P xs (λ y a. h y (next a)))
 
 -- ---- distinct numbers
 
@@ -71,7 +80,7 @@ distinct_has found [] n m = elim m [ ]
 distinct_has found (x ∷ xs) n first = distinct_keeps (with_element nat_eq found x) xs n (with_has found x)
 distinct_has found (x ∷ xs) n (next m) = distinct_has (with_element nat_eq found x) xs n m
 
-behind : (x n : ℕ) (met : List ℕ) → Among n (x ∷ met) → nat_eq x n ≡ false → Among n met
+pub behind : (x n : ℕ) (met : List ℕ) → Among n (x ∷ met) → nat_eq x n ≡ false → Among n met
 behind x n met first h = absurd (let e = eq-eqb x x refl in cc)
 behind x n met (next m) h = m
 
@@ -85,3 +94,11 @@ placed f x met n d e m again false h = again (behind x n met m h)
 pub at_place : {B : Type 0} (f : ℕ → B) (met : List ℕ) (n : ℕ) (d e : B) → Among n met → slice_index_or (d ∷ map f met) (place_in met n) e ≡ f n
 at_place f [] n d e m = elim m [ ]
 at_place f (x ∷ met) n d e m = placed f x met n d e m (at_place f met n (f x) e) (nat_eq x n) refl
+
+-- at its place in the list stands the number itself
+pub at_own_place : (met : List ℕ) (n : ℕ) → Among n met → slice_index_or (0 ∷ met) (place_in met n) 0 ≡ n
+at_own_place met n m = ap (λ ms. slice_index_or (0 ∷ ms) (place_in met n) 0) (sym (map-id met)) ∙ at_place (λ k. k) met n 0 0 m
+
+pub distinct_append : (found xs ys : List ℕ) → distinct_after nat_eq found (xs ++ ys) ≡ distinct_after nat_eq (distinct_after nat_eq found xs) ys
+distinct_append found [] ys = refl
+distinct_append found (x ∷ xs) ys = distinct_append (with_element nat_eq found x) xs ys

@@ -3,7 +3,7 @@ use Rattle.std.proofs.Common.{◌≡◌, ℕ, ◌≤◌, List, [], ◌∷◌, �
 use Rattle.std.specs.Prelude.{slice_index_or, nat_eq, nat_lt, if◌then◌else◌, ◌||◌, Option, Some, None, Result, Ok, Err}
 use Rattle.std.specs.List.{list_any}
 use Rattle.std.proofs.lemmas.Bool.{eqb-true, ltb-false, le-ltb}
-use Rattle.std.proofs.lemmas.List.{length-map}
+use Rattle.std.proofs.lemmas.List.{length-map, map-append}
 use Rattle.clp_model.specs.declared.sort.Sort.TheVariants.{Any}
 use Rattle.clp_model.specs.declared.limit.Limit.{Limit}
 use Rattle.clp_model.specs.declared.limit.Limit.TheVariants.{Shape, Atoms, Variables, Rows}
@@ -11,12 +11,8 @@ use Rattle.clp_model.specs.Trees.{mapped, mapped_all, variables, variables_in}
 use Rattle.clp_model.specs.Clauses.{Clause, sort_in}
 use Rattle.clp_model.specs.Predicates.{with_element, distinct_after}
 use Rattle.clp_model.specs.Canonical.{clause_size, clause_depth, variables_met, place_in, canonical_form, limit_past, unless_past, new_clause, IsCanonical}
-use Rattle.clp_meaning.proofs.Membership.{Among, first, next, among_front, among_back, among_either, distinct_has, at_place}
-use Rattle.clp_meaning.proofs.Trees.{map_append, all_variables_mapped, mapped_twice, all_mapped_twice, total_size_mapped, greatest_depth_mapped, length_mapped}
-
-map_same : (ns : List ℕ) → map (λ k. k) ns ≡ ns
-map_same [] = refl
-map_same (n ∷ ns) = ap (λ ms. n ∷ ms) (map_same ns)
+use Rattle.clp_model.proofs.Membership.{Among, first, next, among_front, among_back, among_either, distinct_has, at_place, at_own_place}
+use Rattle.clp_model.proofs.RenamedTrees.{all_variables_mapped, mapped_twice, all_mapped_twice, total_size_mapped, greatest_depth_mapped, length_mapped}
 
 only : (k x : ℕ) → Among k (x ∷ []) → k ≡ x
 only k x first = refl
@@ -25,9 +21,7 @@ only k x (next a) = elim a [ ]
 -- the place of a number in a list tells the number
 place_injective : (met : List ℕ) (m n : ℕ) → Among m met → Among n met → place_in met m ≡ place_in met n → m ≡ n
 place_injective met m n am an e =
-    let at : (k : ℕ) → Among k met → slice_index_or (0 ∷ met) (place_in met k) 0 ≡ k =
-    λ k a. ap (λ ms. slice_index_or (0 ∷ ms) (place_in met k) 0) (sym (map_same met)) ∙ at_place (λ j. j) met k 0 0 a in
-    sym (at m am) ∙ ap (λ p. slice_index_or (0 ∷ met) p 0) e ∙ at n an
+    sym (at_own_place met m am) ∙ ap (λ p. slice_index_or (0 ∷ met) p 0) e ∙ at_own_place met n an
 
 module _ (f : ℕ → ℕ) (met : List ℕ) (injective : (m n : ℕ) → Among m met → Among n met → f m ≡ f n → m ≡ n) where
   same_test : (m n : ℕ) → Among m met → Among n met → nat_eq (f m) (f n) ≡ nat_eq m n
@@ -59,7 +53,7 @@ module _ (f : ℕ → ℕ) (met : List ℕ) (injective : (m n : ℕ) → Among m
       by : (b : Bool) → list_any (λ y. nat_eq y (f x)) (map f found) ≡ b
           → (if list_any (λ y. nat_eq y (f x)) (map f found) then map f found else map f found ++ f x ∷ []) ≡ map f (if b then found else found ++ x ∷ [])
       by true e = ap (λ t. if t then map f found else map f found ++ f x ∷ []) e
-      by false e = ap (λ t. if t then map f found else map f found ++ f x ∷ []) e ∙ sym (map_append f found (x ∷ []))
+      by false e = ap (λ t. if t then map f found else map f found ++ f x ∷ []) e ∙ sym (map-append f found (x ∷ []))
 
   with_inside : (found : List ℕ) → ((k : ℕ) → Among k found → Among k met) → (x : ℕ) → Among x met → (k : ℕ) → Among k (with_element nat_eq found x) → Among k met
   with_inside found inside x ax k = by (list_any (λ y. nat_eq y x) found)
