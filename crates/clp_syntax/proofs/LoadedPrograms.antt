@@ -120,6 +120,8 @@ back (one_more {c} {d} {cs} {ds} e made) (next n) = let x = back made n in (x.0,
 -- ---- a program is loaded with its instances
 instances_made : (source : List SourceClause) (clauses : List Clause) → Made (map of_source source) clauses → HaveInstancesOf (map Some clauses) source
 instances_made [] [] nothing = tt
+instances_made [] (c ∷ clauses) m = elim m [ ]
+instances_made (s ∷ source) [] m = elim m [ ]
 instances_made (s ∷ source) (c ∷ clauses) (one_more e made) = (loaded_clause_keeps_instances s c e, instances_made source clauses made)
 
 pub loading_keeps_instances : LoadingKeepsInstances
