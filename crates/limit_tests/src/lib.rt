@@ -1,9 +1,11 @@
 //! Tests that cross crates: the limits of loading and of steps on both sides, the answers of whole scripts,
-//! and copies. There is no other code here.
+//! damaged texts, and copies. There is no other code here.
 #![tactic(auto)]
 
 #[cfg(test)]
 mod copies;
+#[cfg(test)]
+mod damaged_texts;
 #[cfg(test)]
 mod loads;
 #[cfg(test)]
