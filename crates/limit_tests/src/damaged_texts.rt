@@ -16,8 +16,9 @@
 //   variables; the depth of a constant or a variable is 1.
 // - All of the program is read and loaded before the script is looked at, and all of the script is read before its
 //   first step is carried out.
-use map_main::{MemShelf, MemSink, MemSource, NoMemory, Status, Words, map_run};
-use std::alloc::{AllocError, Global};
+use crate::answers::{answer, whole};
+use map_main::{NoMemory, Status};
+use std::alloc::Global;
 use std::test::Fail;
 
 /// A status, and the text that is written.
@@ -586,21 +587,9 @@ fn gives(
     script: &[u8],
     wanted: (Status, &str),
 ) -> Result<bool, NoMemory> {
-    let mut words = Words::new(alloc);
-    for word in ["map", "replay", "P", "S"] {
-        words.push(word)?;
-    }
-    let mut files = Vec::new(alloc);
-    for (name, text) in [("P", program), ("S", script)] {
-        let bytes = Vec::from_slice(alloc, text)?;
-        files.push((String::from_str(alloc, name)?, bytes))?;
-    }
-    let mut shelf = MemShelf::new(files, Vec::new(alloc));
-    let mut input = MemSource::new(Vec::new(alloc), 1, Vec::new(alloc));
-    let mut out = MemSink::new(Vec::new(alloc), 4096, Vec::new(alloc));
-    let status = map_run(alloc, &words, &mut shelf, &mut input, &mut out);
+    let (status, written) = answer(alloc, program, script)?;
     let (wanted_status, text) = wanted;
-    Ok(status == wanted_status && out.taken.as_slice() == text.as_bytes())
+    Ok(status == wanted_status && written.as_slice() == text.as_bytes())
 }
 
 /// The place of the first case that has another answer, if there is one.
@@ -611,15 +600,6 @@ fn first_other(alloc: Global, cases: &[Case]) -> Result<Option<usize>, NoMemory>
         }
     }
     Ok(None)
-}
-
-/// The text of these pieces.
-fn whole(alloc: Global, pieces: &[(&str, usize)]) -> Result<String, AllocError> {
-    let mut text = String::new(alloc);
-    for (piece, times) in pieces.iter() {
-        text.push_str(piece.repeat(alloc, *times)?.as_str())?;
-    }
-    Ok(text)
 }
 
 /// Whether a program and a script in pieces give this answer, in pieces too.

@@ -3,11 +3,15 @@
 #![tactic(auto)]
 
 #[cfg(test)]
+mod answers;
+#[cfg(test)]
 mod copies;
 #[cfg(test)]
 mod damaged_texts;
 #[cfg(test)]
 mod loads;
+#[cfg(test)]
+mod nodes;
 #[cfg(test)]
 mod steps;
 
