@@ -1,9 +1,6 @@
-//! Tests that cross crates: the limits of loading and of steps on both sides, the answers of whole scripts,
-//! and copies. There is no other code here.
+//! Tests that cross crates: the limits of loading and of steps on both sides, and the answers of whole scripts.
 #![tactic(auto)]
 
-#[cfg(test)]
-mod copies;
 #[cfg(test)]
 mod loads;
 #[cfg(test)]
