@@ -1,4 +1,4 @@
-//! Tests that cross crates: the limits of loading and of steps on both sides, and the answers of whole scripts.
+//! Heavy tests that cross crates: the limits of loading and of steps on both sides.
 #![tactic(auto)]
 
 #[cfg(test)]
