@@ -5,3 +5,4 @@ pub mod Terms
 pub mod Made
 pub mod Kept
 pub mod Without
+pub mod Pushed

@@ -14,4 +14,6 @@ pub use fault::ClauseFault;
 pub use form::canonical;
 
 #[cfg(test)]
+mod limit_tests;
+#[cfg(test)]
 mod tests;

@@ -2,7 +2,7 @@ ghost use Rattle.std.specs.Prelude.{◌≡◌, ◌+◌, ◌%◌, ◌∷◌, [], 
 ghost use Rattle.clp_model.specs.declared.tree.Tree.{App};
 ghost use Rattle.clp_model.specs.declared.sort.Sort.TheVariants.{Any};
 ghost use Rattle.term_store.specs.Trees.{variable, HasTree, Keeps};
-ghost use Rattle.clause_core.specs.Stored.{IsRaw};
+ghost use Rattle.clause_core.specs.Stored.{IsRaw, IsStored};
 
 use super::*;
 use clp_model::Sort;
@@ -41,17 +41,46 @@ fn clause(
     })
 }
 
+/// Whether copies of a clause are the same clause: in its own store, and in another one, where it is in canonical form
+/// already.
+#[tactic(auto, using(term_store::proofs::Keeping::keeps_within))]
+fn copies_are_same(alloc: Global, store: &Store, c: &Clause) -> Result<bool, ClauseFault>
+    requires { IsStored store.now c.now }
+{
+    let copy = c.copy(alloc)?;
+    let mut second = Store::new(alloc);
+    let Clause { head, atoms, sorts } = copy_clause(alloc, &mut second, store, &copy)?;
+    let moved = RawClause { head, atoms, sorts };
+    let again = canonical(alloc, &mut second, &moved)?;
+    let as_large = clause_size(&second, &again) == clause_size(store, c);
+    let same_head = second.same(again.head, moved.head);
+    Ok(
+        as_large
+            && same_head
+            && again.atoms.len() == c.atoms.len()
+            && again.sorts.as_slice() == c.sorts.as_slice()
+            && copy.head == c.head
+            && copy.atoms.as_slice() == c.atoms.as_slice()
+            && copy.sorts.as_slice() == c.sorts.as_slice(),
+    )
+}
+
+/// The variables of the head and the body, as they are and in the canonical form, counted from 0, and how many there
+/// are.
+type Case = ((u32, u32), (u32, u32), (u32, u32), (u32, u32), usize);
+
+static CASES: [Case; 4] = [
+    ((1, 0), (0, 1), (0, 1), (1, 0), 2),
+    ((2, 2), (0, 2), (0, 0), (1, 0), 2),
+    ((0, 1), (1, 2), (0, 1), (1, 2), 3),
+    ((2, 2), (2, 2), (0, 0), (0, 0), 1),
+];
+
 #[test]
 #[tactic(auto, using(crate::proofs::Kept::is_raw_kept))]
 fn canonical_forms(rt: HostRuntime) -> Result<(), Fail> {
-    // the variables of the head and the body, as they are and in the canonical form, counted from 0
-    let cases = [
-        ((1, 0), (0, 1), (0, 1), (1, 0), 2),
-        ((2, 2), (0, 2), (0, 0), (1, 0), 2),
-        ((0, 1), (1, 2), (0, 1), (1, 2), 3),
-        ((2, 2), (2, 2), (0, 0), (0, 0), 1),
-    ];
-    for (head, body, new_head, new_body, variables) in cases {
+    for case in CASES.iter() {
+        let (head, body, new_head, new_body, variables) = *case;
         let mut store = Store::new(rt.alloc());
         let wanted = clause(rt.alloc(), &mut store, new_head, new_body)?;
         let raw = clause(rt.alloc(), &mut store, head, body)?;
@@ -62,6 +91,7 @@ fn canonical_forms(rt: HostRuntime) -> Result<(), Fail> {
         assert!(rt; store.same(c.atoms.as_slice()[0], wanted.atoms.as_slice()[0]));
         assert_eq!(rt; c.sorts.len(), variables);
         assert_eq!(rt; clause_size(&store, &c), 6);
+        assert!(rt; copies_are_same(rt.alloc(), &store, &c)?);
     }
     Ok(())
 }

@@ -16,3 +16,6 @@ pub use name::Name;
 pub use predicate::Pred;
 pub use sort::{Rel, Sort};
 pub use tree::{Tree, Variable};
+
+#[cfg(test)]
+mod tests;

@@ -1,11 +1,9 @@
-//! Tests that cross crates: the limits of loading and of steps on both sides, the answers of whole scripts,
-//! damaged texts, and copies. There is no other code here.
+//! Heavy tests that cross crates: the limits of loading, of steps and of a run on both sides, and damaged
+//! texts. There is no other code here.
 #![tactic(auto)]
 
 #[cfg(test)]
 mod answers;
-#[cfg(test)]
-mod copies;
 #[cfg(test)]
 mod damaged_texts;
 #[cfg(test)]

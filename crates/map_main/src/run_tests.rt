@@ -126,7 +126,7 @@ type Case = (
     &'static str,
 );
 
-static CASES: [Case; 38] = [
+static CASES: [Case; 39] = [
     // The output.
     (Some(PROGRAM), Some(SCRIPT), 0, 0, Status::Ok, "", OUTPUT),
     (Some(""), Some("map script 1."), 0, 0, Status::Ok, "", ""),
@@ -266,6 +266,15 @@ static CASES: [Case; 38] = [
         Status::Refused,
         "",
         "refused: step 1: 4 repeated position 2\n",
+    ),
+    (
+        Some("p(X,Y) :- q(X), q(Y).\n"),
+        Some(SCRIPT),
+        0,
+        0,
+        Status::Refused,
+        "",
+        "refused: step 1: 21 not equal atoms 1 2\n",
     ),
     (
         Some("p(X) :- q(X), r, q(X), r."),

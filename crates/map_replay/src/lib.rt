@@ -26,3 +26,6 @@ pub use run::apply;
 pub use script::{printed_scripts_are_read_again, read_script};
 pub use state::{Entry, State};
 pub use step::Step;
+
+#[cfg(test)]
+mod tests;

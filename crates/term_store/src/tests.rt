@@ -1,27 +1,94 @@
+ghost use Rattle.std.specs.Prelude.{◌<◌, length, IfOk};
+ghost use Rattle.term_store.specs.Trees.{AreIn, Keeps};
+
 use super::*;
+use sqlite_items::Items;
+use std::alloc::Global;
 use std::test::Fail;
 
-#[test]
-fn terms_and_copies(rt: HostRuntime) -> Result<(), Fail> {
-    let mut store = Store::new(rt.alloc());
+/// The variables 1 and 12 of two sorts, `g(12,1)` and `f(1,g(12,1))`.
+#[tactic(auto, using(crate::proofs::Keeping::keeps_within))]
+fn sample(alloc: Global, store: &mut Store) -> Result<Items<Term>, TermFault>
+    ensures keeps { Keeps store.old store.new }
+    ensures within { IfOk result (AreIn store.new) }
+{
     let x = store.var(1, Sort::Any)?;
     let y = store.var(12, Sort::Num)?;
     let inner = store.app("g", &[y, x])?;
     let outer = store.app("f", &[x, inner])?;
-    let again = store.app("g", &[y, x])?;
-    let other_name = store.app("h", &[y, x])?;
+    Ok(Items::from_slice(alloc, &[x, y, inner, outer])?)
+}
+
+/// What a term is to be: a variable, or a name with this many arguments.
+#[derive(Clone, Copy)]
+enum Kind {
+    Var(u32, Sort),
+    App(&'static str, usize),
+}
+
+/// What each term of the sample is, its size and its depth.
+static SAMPLE: [(Kind, u32, u32); 4] = [
+    (Kind::Var(1, Sort::Any), 1, 1),
+    (Kind::Var(12, Sort::Num), 1, 1),
+    (Kind::App("g", 2), 3, 2),
+    (Kind::App("f", 2), 5, 3),
+];
+
+fn is_so(store: &Store, t: Term, wanted: &(Kind, u32, u32)) -> bool
+    requires { t < length store.now }
+{
+    let (kind, size, depth) = *wanted;
+    let looks = match (store.look(t), kind) {
+        (Look::Var(number, sort), Kind::Var(n, s)) => number == n && sort == s,
+        (Look::App(name, args), Kind::App(f, arity)) => name == f && args.len() == arity,
+        _ => false,
+    };
+    looks && store.size(t) == size && store.depth(t) == depth
+}
+
+fn are_so(store: &Store, terms: &[Term], wanted: &[(Kind, u32, u32)]) -> bool
+    requires { AreIn store.now terms.now }
+{
+    match (terms.split_first(), wanted.split_first()) {
+        (None, None) => true,
+        (Some((t, terms)), Some((one, wanted))) => is_so(store, *t, one)
+            && are_so(store, terms, wanted),
+        _ => false,
+    }
+}
+
+#[test]
+fn terms_and_copies(rt: HostRuntime) -> Result<(), Fail> {
+    let mut first = Store::new(rt.alloc());
+    let terms = sample(rt.alloc(), &mut first)?;
+    assert!(rt; are_so(&first, terms.as_slice(), SAMPLE.as_slice()));
     let mut second = Store::new(rt.alloc());
-    let copy = second.copy(&store, outer)?;
-    assert_eq!(rt; second.size(copy), 5);
-    assert_eq!(rt; second.depth(copy), 3);
-    let cases = [
-        (inner, again, true),
-        (inner, other_name, false),
-        (x, y, false),
-        (outer, outer, true),
-    ];
-    for (a, b, same) in cases {
-        assert_eq!(rt; store.same(a, b), same);
+    let constant = second.app("a", &[])?;
+    let copies = second.copy_all(&first, terms.as_slice())?;
+    assert!(rt; are_so(&second, copies.as_slice(), SAMPLE.as_slice()));
+    let copy = first.copy(&second, constant)?;
+    assert!(rt; is_so(&first, copy, &(Kind::App("a", 0), 1, 1)));
+    Ok(())
+}
+
+/// The name of a second term, whether its arguments are swapped, and whether it is `g(12,1)`.
+static SECOND: [(&str, bool, bool); 3] = [
+    ("g", false, true),
+    ("h", false, false),
+    ("g", true, false),
+];
+
+#[test]
+fn equal_terms(rt: HostRuntime) -> Result<(), Fail> {
+    for (name, swapped, same) in SECOND.iter() {
+        let mut store = Store::new(rt.alloc());
+        let x = store.var(1, Sort::Any)?;
+        let y = store.var(12, Sort::Num)?;
+        let one = store.app("g", &[y, x])?;
+        let args = if *swapped { [x, y] } else { [y, x] };
+        let other = store.app(name, &args)?;
+        assert_eq!(rt; store.same(one, other), *same, "{name}");
+        assert!(rt; store.same(one, one) && !store.same(x, y) && !store.same(x, one));
     }
     Ok(())
 }
