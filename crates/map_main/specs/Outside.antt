@@ -1,6 +1,7 @@
 -- What the outside tells, what it takes, and when it may fail.
 use Rattle.std.specs.Prelude.{◌≡◌, ℕ, ◌+◌, ◌-◌, ◌^◌, ◌<◌, ◌≤◌, ◌==◌, min, Bool, false, List, [], ◌∷◌, ◌++◌, length, if◌then◌else◌, Option, Some, None, Result, Ok, Err, IfSome}
 use Rattle.std.specs.Str.{bytes_eq}
+use Rattle.std.specs.Io.KnownBytes.{Consumes, IsAtEnd}
 
 -- the count rose, or stands at its last value
 abbrev pub Rose : ℕ → ℕ → Type 0
@@ -42,3 +43,7 @@ TakesPrefix None None bytes = Unit {0}
 TakesPrefix None (Some ys) bytes = ⊥
 TakesPrefix (Some xs) None bytes = ⊥
 TakesPrefix (Some xs) (Some ys) bytes = (piece : List ℕ) × IsPrefixOf piece bytes × (ys ≡ xs ++ piece)
+
+-- the bytes are all that was left of some file, which was read to its end
+abbrev pub IsReadWhole : {F : Type 0} → (F → Option (List ℕ)) → List ℕ → Type 0
+IsReadWhole {F} remaining bytes = (before after : F) × Consumes (remaining before) (remaining after) bytes × IsAtEnd (remaining after)

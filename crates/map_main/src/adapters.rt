@@ -2,7 +2,7 @@
 ghost use Rattle.std.specs.Prelude.{◌≡◌, ◌≢◌, ◌<◌, ◌≤◌, ◌↔◌, false, [], None, Ok, Err, IfOk, OnOk, OnErr, length, take, string_bytes, vec_len};
 ghost use Rattle.std.specs.IoError.{error_kind};
 ghost use Rattle.std.specs.Io.KnownBytes.{Appends, Consumes, IsAtEnd, Keeps};
-ghost use Rattle.map_main.specs.Outside.{Rose, tells_end};
+ghost use Rattle.map_main.specs.Outside.{IsReadWhole, Rose, Tells, TellsLonger, tells_end};
 
 use super::outside::{Loading, Shelf, ShelfFault, Sink, SinkFault, Source, SourceFault};
 use std::fs;
@@ -38,7 +38,20 @@ impl<R: Files + AllocGlobal> Shelf for FileShelf<'_, R> {
 
     ghost failed = { λ s. string_bytes s.failed };
 
-    fn load(&mut self, name: &str, into: &mut Vec<u8>, most: usize) -> Result<Loading, ShelfFault> {
+    // What it gives is what a file gave up to its end.
+    fn load(&mut self, name: &str, into: &mut Vec<u8>, most: usize) -> Result<Loading, ShelfFault>
+        requires { into.old.items ≡ [] }
+        ensures read { result ≡ Ok Loading.Whole → IsReadWhole R.File.remaining into.new.items }
+        ensures whole { result ≡ Ok Loading.Whole →
+            (vec_len into.new ≤ most) × Tells None name.now into.new.items }
+        ensures long { result ≡ Ok Loading.TooLong → TellsLonger None name.now most }
+        ensures empty { result ≢ Ok Loading.Whole → into.new.items ≡ [] }
+        ensures cause { result ≡ Err ShelfFault.Failed →
+            Rose self.old.faults self.new.faults × (string_bytes self.new.failed ≡ name.now) }
+        ensures quiet { result ≢ Err ShelfFault.Failed → (self.new.faults ≡ self.old.faults)
+            × (string_bytes self.new.failed ≡ string_bytes self.old.failed) }
+        ensures later { self.old.faults ≤ self.new.faults }
+    {
         let Ok(copy) = String::from_str(self.rt.alloc(), name) else {
             return Err(ShelfFault::NoMemory);
         };
@@ -62,6 +75,7 @@ fn read_file<R: Files>(
     most: usize,
 ) -> Result<Loading, ShelfFault>
     requires { into.old.items ≡ [] }
+    ensures read { result ≡ Ok Loading.Whole → IsReadWhole R.File.remaining into.new.items }
     ensures whole { result ≡ Ok Loading.Whole → vec_len into.new ≤ most }
     ensures empty { result ≢ Ok Loading.Whole → into.new.items ≡ [] }
 {
