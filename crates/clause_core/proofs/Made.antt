@@ -16,7 +16,7 @@ use Rattle.clp_model.proofs.RenamedTrees.{mapped_twice, all_mapped_twice, all_ma
 use Rattle.clp_model.proofs.CanonicalForms.{new_clause_is_canonical}
 use Rattle.term_store.specs.Trees.{tree_at, trees_at, AreIn, HasTree, HaveTrees, Keeps}
 use Rattle.term_store.proofs.Keeping.{keeps_at, keeps_all, keeps_within}
-use Rattle.clause_core.specs.Stored.{number_of, renumber, atom_at, atoms_at, clause_of, HasSort, AreParts}
+use Rattle.clause_core.specs.Stored.{number_of, renumber, atoms_at, clause_of, HasSort, AreParts}
 use Rattle.clause_core.proofs.Places.{place_in_order, place_positive, place_within}
 use Rattle.clause_core.proofs.Kept.{same_plain}
 

@@ -1,10 +1,10 @@
 -- The places of numbers in a list.
-use Rattle.std.proofs.Common.{◌≡◌, ℕ, suc, ◌<◌, ◌≤◌, cond, nat_eq, List, [], ◌∷◌, length, get_or, drop, refl, ap, ◌∙◌, sym, arith, ◌+◌, add-one, false}
-use Rattle.std.proofs.lemmas.Bool.{cond_both, eqb-true, eq-eqb}
+use Rattle.std.proofs.Common.{◌≡◌, ℕ, suc, ◌<◌, ◌≤◌, cond, nat_eq, List, [], ◌∷◌, length, get_or, drop, ap, ◌∙◌, sym, arith, ◌+◌, add-one}
+use Rattle.std.proofs.lemmas.Bool.{cond_both, eqb-true}
 use Rattle.std.proofs.lemmas.List.{drop_all}
 use Rattle.std.proofs.Math.Seq.{drop-cons}
 use Rattle.clp_model.specs.Canonical.{place_in}
-use Rattle.clp_model.proofs.Membership.{Among, first, next, behind}
+use Rattle.clp_model.proofs.Membership.{Among, behind}
 
 pub place_positive : (ms : List ℕ) (n : ℕ) → 0 < place_in ms n
 place_positive [] n = omega arith

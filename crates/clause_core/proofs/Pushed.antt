@@ -9,7 +9,7 @@ use Rattle.clp_model.specs.declared.tree.Tree.{Tree, App}
 use Rattle.clp_model.specs.Trees.{variables, variables_in, IsApplication}
 use Rattle.clp_model.specs.Clauses.{sort_in}
 use Rattle.clp_model.proofs.Trees.{variables_app, variables_var, application_app}
-use Rattle.term_store.specs.Trees.{variable, trees_at, AreIn, HasTree, HaveTrees, Keeps}
+use Rattle.term_store.specs.Trees.{variable, trees_at, AreIn, HasTree, Keeps}
 use Rattle.term_store.proofs.Keeping.{keeps_refl, have_push}
 use Rattle.clause_core.specs.Stored.{HasSort, AreParts}
 

@@ -1,13 +1,10 @@
 -- Programs whose clauses have the same instances, and the instances of a loaded clause.
-use Rattle.std.proofs.Common.{◌≡◌, List, refl, sym, subst}
-use Rattle.std.specs.Prelude.{Ok}
-use Rattle.clp_model.specs.declared.clause.SourceClause.{SourceClause}
+use Rattle.std.proofs.Common.{List, refl, sym, subst}
 use Rattle.clp_model.specs.Clauses.{Clause, of_source}
 use Rattle.clp_model.specs.Proof.{Node, InstanceIn}
-use Rattle.clp_model.specs.Canonical.{canonical_form, new_clause}
 use Rattle.clp_model.proofs.Carrying.{Carries, carried}
 use Rattle.clp_model.proofs.CanonicalForms.{new_clause_is_canonical}
-use Rattle.clp_meaning.specs.Laws.{HasInstancesOf, HaveSameInstances, HasClausesOf, SameInstancesKeepProvability, LoadedClauseKeepsInstances}
+use Rattle.clp_meaning.specs.Laws.{HaveSameInstances, HasClausesOf, SameInstancesKeepProvability, LoadedClauseKeepsInstances}
 use Rattle.clp_meaning.proofs.Renaming.{canonical_form_keeps_instances}
 
 onward : (p q : List Clause) → HasClausesOf q p → Carries (InstanceIn p) (InstanceIn q)

@@ -1,7 +1,7 @@
 -- A clause in canonical form has its variables in the order in which they are met.
 use Rattle.std.proofs.Common.{◌≡◌, ℕ, zero, suc, ◌+◌, ◌<◌, ◌≤◌, max, Bool, true, false, ◌||◌, List, [], ◌∷◌, ◌++◌, length, replicate, map, refl, ap, ◌∙◌, sym, arith, cond, append_assoc, append-nil, length-append, Some, None}
 use Rattle.std.proofs.lemmas.Bool.Decides.{nat_tests}
-use Rattle.std.proofs.lemmas.List.{map-append, length-map}
+use Rattle.std.proofs.lemmas.List.{length-map}
 use Rattle.std.proofs.lemmas.List.Elements.{All-head, All-tail}
 use Rattle.std.proofs.lemmas.List.Folds.{list_any-append}
 use Rattle.std.specs.Prelude.{All, nat_eq, nat_lt}
@@ -9,8 +9,7 @@ use Rattle.std.specs.List.{list_any}
 use Rattle.clp_model.specs.declared.limit.Limit.TheVariants.{Shape, Atoms, Variables, Rows}
 use Rattle.clp_model.specs.declared.sort.Sort.{Sort}
 use Rattle.clp_model.specs.declared.sort.Sort.TheVariants.{Any}
-use Rattle.clp_model.specs.declared.tree.Tree.{Tree, Var, App', Row_of-Tree, end_of-Tree, more_of-Tree}
-use Rattle.clp_model.specs.Trees.{variables, variables_in_row, variables_in, mapped, mapped_row, mapped_all, greatest_depth}
+use Rattle.clp_model.specs.Trees.{variables, variables_in, mapped_all, greatest_depth}
 use Rattle.clp_model.specs.Clauses.{Clause, sort_in}
 use Rattle.clp_model.specs.Predicates.{with_element, distinct_after}
 use Rattle.clp_model.proofs.RenamedTrees.{all_variables_mapped}

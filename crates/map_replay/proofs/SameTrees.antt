@@ -1,18 +1,14 @@
 -- The test whether two atoms of a clause are equal.
-use Rattle.std.proofs.Common.{◌≡◌, ℕ, zero, suc, ◌<◌, Bool, true, false, ◌&&◌, List, [], ◌∷◌, length, get_or, refl, ap, ◌∙◌, sym, subst, arith, All, nat_eq}
+use Rattle.std.proofs.Common.{◌≡◌, ℕ, zero, suc, ◌<◌, Bool, true, false, List, [], ◌∷◌, length, get_or, refl, ap, ◌∙◌, sym, subst, arith, All, nat_eq}
 use Rattle.std.specs.Prelude.{IsTrue, ◌↔◌, slice_index_or}
-use Rattle.std.specs.List.{AllByRecursion}
-use Rattle.std.specs.Str.{bytes_eq}
-use Rattle.std.proofs.lemmas.Bool.{eqb-true}
 use Rattle.std.proofs.lemmas.Bool.Decides.{nat_tests}
 use Rattle.std.proofs.lemmas.Slice.Eq.{bytes_eq-Decides}
 use Rattle.std.proofs.lemmas.List.Elements.{All-contains, All-from_recursion}
 use Rattle.clp_model.specs.declared.sort.Sort.{Sort}
 use Rattle.clp_model.specs.declared.tree.Variable.{Variable}
-use Rattle.clp_model.specs.declared.tree.Tree.{Tree, Var, App, App', Row_of-Tree, end_of-Tree, more_of-Tree, items-the_row-Tree}
+use Rattle.clp_model.specs.declared.tree.Tree.{Tree, Var, App', Row_of-Tree, end_of-Tree, more_of-Tree}
 use Rattle.clp_model.specs.Trees.{mapped, variables, variables_in}
 use Rattle.clp_model.specs.Clauses.{sort_in}
-use Rattle.clp_model.proofs.Trees.{out_app}
 use Rattle.clp_model.proofs.Membership.{Among, all_among, from_among, among_front, among_back}
 use Rattle.clp_model.proofs.RenamedTrees.{mapped_twice, mapped_to_itself}
 use Rattle.term_store.specs.Trees.{tree_at, trees_at, AreIn}
