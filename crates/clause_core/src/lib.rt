@@ -1,4 +1,6 @@
-//! Clauses whose terms lie in a store, and their canonical form.
+//! Clauses whose terms lie in a store. Contracts see a clause through `clause_in`, which gives the clause of the
+//! definitions. `canonical` makes exactly the canonical form of a new clause, or tells the first limit that it is
+//! past; sizes and copies are exact; and every call keeps the terms that the store has.
 #![tactic(auto)]
 
 mod clause;

@@ -1,5 +1,5 @@
-//! Rationals as fractions in lowest terms, for the meaning of numbers. There is no code here: each
-//! law below is the contract of an empty function.
+//! Rationals as fractions in lowest terms, for the meaning of numbers: each whole number over a positive
+//! one is exactly one such fraction. There is no code here: each law below is the contract of an empty function.
 #![tactic(auto)]
 
 ghost use Rattle.std.specs.Prelude.{ℕ, ℤ, ◌<◌, ◌≡◌};

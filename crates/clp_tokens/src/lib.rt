@@ -1,4 +1,6 @@
-//! The tokens of programs and scripts, a cursor over them, and the faults that readers tell.
+//! The tokens of programs and scripts. A `Cursor` is seen as the text that is left: what it peeks at and takes is
+//! exactly the next token of the definition, and `expect` passes a token of the wanted kind, or else nothing and
+//! tells the fault. No call takes memory.
 #![tactic(auto)]
 
 mod cursor;

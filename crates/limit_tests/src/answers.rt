@@ -1,4 +1,4 @@
-// The top call over the outside in memory, and long texts.
+//! The top call over the outside in memory, and long texts.
 
 use map_main::{MemShelf, MemSink, MemSource, NoMemory, Status, Words, map_run};
 use std::alloc::{AllocError, Global};

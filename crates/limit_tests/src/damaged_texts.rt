@@ -1,21 +1,22 @@
-// What the top call answers on damaged texts, and on just good ones beside them.
-//
-// The answers are worked out by hand from the rules of the first form, and are taken from no run:
-//
-// - A program is made of names (a small letter, then letters, digits, `_`), variables (a capital or `_`, then the
-//   same), `(`, `)`, `,`, `:-` and the end, which is `.` before white or before the end of the text. Between them
-//   there may be white: space, tab, line feed, carriage return. No other byte may stand anywhere, and there are no
-//   numbers, quotes or comments.
-// - A clause is an atom and the end, or an atom, `:-`, atoms with `,` between them, and the end. An atom is a name with
-//   or without arguments; an argument is the same, or a variable. Brackets have at least one argument in them. The
-//   predicate `true` without arguments doesn't occur. `_` is another variable each time.
-// - A script is `map script 1.` and steps `merge C at I,J.`, with white as in a program. A number may begin with zeros,
-//   is at most 4,294,967,295, and has no letter, `_` or quote directly behind it.
-// - A name or a variable has at most 255 bytes, at most 256 brackets are open at a place, and there are at most 4,096
-//   clauses and 100,000 steps. A clause that is loaded has at most 4,096 nodes, a depth of 256, 64 atoms and 256
-//   variables; the depth of a constant or a variable is 1.
-// - All of the program is read and loaded before the script is looked at, and all of the script is read before its
-//   first step is carried out.
+//! What the top call answers on damaged texts, and on just good ones beside them.
+//!
+//! The answers are worked out by hand from the rules of the first form, and are taken from no run:
+//!
+//! - A program is made of names (a small letter, then letters, digits, `_`), variables (a capital or `_`, then the
+//!   same), `(`, `)`, `,`, `:-` and the end, which is `.` before white or before the end of the text. Between them
+//!   there may be white: space, tab, line feed, carriage return. No other byte may stand anywhere, and there are no
+//!   numbers, quotes or comments.
+//! - A clause is an atom and the end, or an atom, `:-`, atoms with `,` between them, and the end. An atom is a name with
+//!   or without arguments; an argument is the same, or a variable. Brackets have at least one argument in them. The
+//!   predicate `true` without arguments doesn't occur. `_` is another variable each time.
+//! - A script is `map script 1.` and steps `merge C at I,J.`, with white as in a program. A number may begin with zeros,
+//!   is at most 4,294,967,295, and has no letter, `_` or quote directly behind it.
+//! - A name or a variable has at most 255 bytes, at most 256 brackets are open at a place, and there are at most 4,096
+//!   clauses and 100,000 steps. A clause that is loaded has at most 4,096 nodes, a depth of 256, 64 atoms and 256
+//!   variables; the depth of a constant or a variable is 1.
+//! - All of the program is read and loaded before the script is looked at, and all of the script is read before its
+//!   first step is carried out.
+
 use crate::answers::{answer, whole};
 use map_main::{NoMemory, Status};
 use std::alloc::Global;

@@ -1,4 +1,5 @@
-// Runs whose clauses have together as many nodes as they may have, and more.
+//! Runs whose clauses have together as many nodes as they may have, and more.
+
 use crate::answers::{answer, whole};
 use itoa::Buffer;
 use map_main::Status;

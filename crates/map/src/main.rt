@@ -1,5 +1,6 @@
-// Replays a script of rewriting steps on a constraint logic program: `map replay P S` writes the
-// program that the script in file S makes of the program in file P.
+//! Replays a script of rewriting steps on a constraint logic program: `map replay P S` writes the
+//! program that the script in file S makes of the program in file P.
+
 #![tactic(auto)]
 
 use map_main::{FileShelf, InputSource, NoMemory, OutputSink, Status, Words, map_run};

@@ -1,4 +1,5 @@
-// The command that words mean.
+//! The command that words mean.
+
 ghost use Rattle.std.specs.Prelude.{◌≡◌, Some, None, IfSome, IfNone};
 ghost use Rattle.map_main.specs.Command.{command_of};
 

@@ -1,9 +1,11 @@
-// What the program needs of the world: files by their names, input, and a place for output.
-//
-// A shelf, a source and a sink each say in their contracts what they hold, have left or have taken,
-// and count their faults, so that an answer can be blamed on the outside only where it failed.
-// Beside the traits stand their forms in memory, which fail at chosen calls, and the adapters
-// over real files, standard input and standard output.
+//! The top call: `map_run` answers the words of a command over a shelf of files, an input and an output.
+//! What it writes is exactly the right text, each status has its cause, and the program that it writes
+//! keeps every ground atom's provability.
+//!
+//! A shelf, a source and a sink each say in their contracts what they hold, have left or have taken,
+//! and count their faults, so that an answer can be blamed on the outside only where it failed.
+//! Beside the traits stand their forms in memory, which fail at chosen calls, and the adapters
+//! over real files, standard input and standard output.
 #![tactic(auto)]
 
 pub mod adapters;

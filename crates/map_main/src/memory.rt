@@ -1,4 +1,5 @@
-// The outside in memory: a shelf, a source and a sink that tell everything, and fail at chosen calls.
+//! The outside in memory: a shelf, a source and a sink that tell everything, and fail at chosen calls.
+
 ghost use Rattle.std.specs.Prelude.{◌≡◌, ◌≢◌, ◌<◌, ◌≤◌, ◌++◌, ◌↔◌, ◌⊎◌, ℕ, List, true, false, [], Some, None, Ok, Err, IsTrue, IfOk, OnOk, OnErr, length, take, drop, min, string_bytes, vec_len};
 ghost use Rattle.std.specs.Option.{option_copied};
 ghost use Rattle.map_main.specs.Outside.{file_of, tells_end};

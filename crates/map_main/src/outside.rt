@@ -1,4 +1,5 @@
-// What is asked of the outside: files by their names, bytes to read, and a place for bytes.
+//! What is asked of the outside: files by their names, bytes to read, and a place for bytes.
+
 ghost use Rattle.std.specs.Prelude.{◌≡◌, ◌≢◌, ◌<◌, ◌≤◌, ℕ, Bool, false, List, [], length, take, Option, Ok, Err, IfOk, OnErr, vec_len};
 ghost use Rattle.std.specs.Io.KnownBytes.{append_known, prepend_known};
 ghost use Rattle.map_main.specs.Outside.{Rose, Files, Tells, TellsLonger, NothingLeft, tells_end};

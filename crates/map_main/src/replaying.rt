@@ -1,4 +1,5 @@
-// The files of a command, opened and carried out.
+//! The files of a command, opened and carried out.
+
 ghost use Rattle.std.specs.Prelude.{◌≡◌, ◌≢◌, None, Ok, Err, IfOk, IfErr, IfSome, OnOk};
 ghost use Rattle.map_replay.specs.Seen.{state_of};
 ghost use Rattle.map_main.specs.Outside.{Rose, TellsLonger};

@@ -1,6 +1,6 @@
-// What the top call answers over the outside in memory.
+//! What the top call answers over the outside in memory.
+
 use super::{MemShelf, MemSink, MemSource, Status, Words, map_run};
-use itoa::Buffer;
 use std::alloc::{AllocError, Global};
 
 const PROGRAM: &str = "p(X) :- q(X), q(X).\n";
@@ -428,52 +428,5 @@ fn long_files(rt: HostRuntime) -> Result<(), AllocError> {
         assert_eq!(rt; outcome.status, status);
         assert!(rt; outcome.written.as_slice() == written.as_bytes());
     }
-    Ok(())
-}
-
-/// 65 clauses, each of a head of one node and 64 equal atoms of 63 nodes.
-fn large_program(alloc: Global) -> Result<String, AllocError> {
-    let mut program = String::new(alloc);
-    for _ in 0..65u8 {
-        program.push_str("p :- ")?;
-        for atom in 0..64u8 {
-            program.push_str(if atom == 0 { "q(a" } else { ", q(a" })?;
-            for _ in 0..61u8 {
-                program.push_str(",a")?;
-            }
-            program.push_str(")")?;
-        }
-        program.push_str(".\n")?;
-    }
-    Ok(program)
-}
-
-/// Merges all atoms of each clause into one.
-fn large_script(alloc: Global) -> Result<String, AllocError> {
-    let mut script = String::from_str(alloc, "map script 1.\n")?;
-    let mut next = 66u32;
-    for clause in 1..66u32 {
-        let mut id = clause;
-        for _ in 0..63u8 {
-            script.push_str("merge ")?;
-            script.push_str(Buffer::new().format(id))?;
-            script.push_str(" at 1,2.\n")?;
-            id = next;
-            next = next.wrapping_add(1);
-        }
-    }
-    Ok(script)
-}
-
-#[test]
-fn too_many_nodes(rt: HostRuntime) -> Result<(), AllocError> {
-    let program = large_program(rt.alloc())?;
-    let script = large_script(rt.alloc())?;
-    let files = files(rt.alloc(), Some(program.as_str()), Some(script.as_str()))?;
-    let outcome = call(rt.alloc(), "map replay P S", files, 0, 4096, 0)?;
-    assert_eq!(rt; outcome.status, Status::Refused);
-    assert!(rt;
-        outcome.written.as_slice() == b"refused: step 4019: 24 too large nodes\n".as_slice()
-    );
     Ok(())
 }

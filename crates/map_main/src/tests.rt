@@ -1,4 +1,5 @@
-// What the outside in memory and the adapters do when they run.
+//! What the outside in memory and the adapters do when they run.
+
 ghost use Rattle.std.specs.Prelude.{◌≡◌, ◌<◌, false, length};
 
 use super::{

@@ -1,4 +1,5 @@
-// Writing whole texts to a sink that takes them piece by piece.
+//! Writing whole texts to a sink that takes them piece by piece.
+
 ghost use Rattle.std.specs.Prelude.{◌≡◌, ◌≢◌, ◌≤◌, Err, OnOk, OnErr};
 ghost use Rattle.std.specs.Io.KnownBytes.{append_known};
 ghost use Rattle.map_main.specs.Outside.{Rose, TakesPrefix};
