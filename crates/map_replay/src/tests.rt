@@ -41,7 +41,7 @@ fn answer(alloc: Global, program: &[u8], script: &[u8]) -> Result<String, NoMemo
 }
 
 /// A program, the steps of a script, and the answer.
-static ANSWERS: [(&str, &str, &str); 18] = [
+static ANSWERS: [(&str, &str, &str); 19] = [
     ("", "", ""),
     (
         "p(X) :- q(X), q(X).",
@@ -114,6 +114,11 @@ static ANSWERS: [(&str, &str, &str); 18] = [
         "p :- q(_), q(_).",
         "merge 1 at 2,1.",
         "21 not equal atoms 2 1 after\np :- q(V1), q(V2).\n",
+    ),
+    (
+        "p :- q, r.",
+        "merge 1 at 1,2.",
+        "21 not equal atoms 1 2 after\np :- q, r.\n",
     ),
     ("p :- X.", "merge 1 at 1,2.", "bad program"),
     ("p.", "merge 1 at 1.", "bad script"),
