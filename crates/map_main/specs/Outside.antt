@@ -47,3 +47,7 @@ TakesPrefix (Some xs) (Some ys) bytes = (piece : List ℕ) × IsPrefixOf piece b
 -- the bytes are all that was left of some file, which was read to its end
 abbrev pub IsReadWhole : {F : Type 0} → (F → Option (List ℕ)) → List ℕ → Type 0
 IsReadWhole {F} remaining bytes = (before after : F) × Consumes (remaining before) (remaining after) bytes × IsAtEnd (remaining after)
+
+-- more than `most` bytes of some file were read
+abbrev pub IsReadPast : {F : Type 0} → (F → Option (List ℕ)) → ℕ → Type 0
+IsReadPast {F} remaining most = (before after : F) × (bytes : List ℕ) × Consumes (remaining before) (remaining after) bytes × (most < length bytes)

@@ -3,7 +3,7 @@
 ghost use Rattle.std.specs.Prelude.{◌≡◌, ◌≢◌, ◌<◌, ◌≤◌, ◌↔◌, false, [], None, Ok, Err, IfOk, OnOk, OnErr, length, take, string_bytes, vec_len};
 ghost use Rattle.std.specs.IoError.{error_kind};
 ghost use Rattle.std.specs.Io.KnownBytes.{Appends, Consumes, IsAtEnd, Keeps};
-ghost use Rattle.map_main.specs.Outside.{IsReadWhole, Rose, Tells, TellsLonger, tells_end};
+ghost use Rattle.map_main.specs.Outside.{IsReadPast, IsReadWhole, Rose, Tells, TellsLonger, tells_end};
 
 use super::outside::{Loading, Shelf, ShelfFault, Sink, SinkFault, Source, SourceFault};
 use std::fs;
@@ -39,10 +39,11 @@ impl<R: Files + AllocGlobal> Shelf for FileShelf<'_, R> {
 
     ghost failed = { λ s. string_bytes s.failed };
 
-    // What it gives is what a file gave up to its end.
+    // What it gives is what a file gave up to its end, and a file that is too long gave more than `most` bytes.
     fn load(&mut self, name: &str, into: &mut Vec<u8>, most: usize) -> Result<Loading, ShelfFault>
         requires { into.old.items ≡ [] }
         ensures read { result ≡ Ok Loading.Whole → IsReadWhole R.File.remaining into.new.items }
+        ensures past { result ≡ Ok Loading.TooLong → IsReadPast R.File.remaining most }
         ensures whole { result ≡ Ok Loading.Whole →
             (vec_len into.new ≤ most) × Tells None name.now into.new.items }
         ensures long { result ≡ Ok Loading.TooLong → TellsLonger None name.now most }
@@ -77,6 +78,7 @@ fn read_file<R: Files>(
 ) -> Result<Loading, ShelfFault>
     requires { into.old.items ≡ [] }
     ensures read { result ≡ Ok Loading.Whole → IsReadWhole R.File.remaining into.new.items }
+    ensures past { result ≡ Ok Loading.TooLong → IsReadPast R.File.remaining most }
     ensures whole { result ≡ Ok Loading.Whole → vec_len into.new ≤ most }
     ensures empty { result ≢ Ok Loading.Whole → into.new.items ≡ [] }
 {

@@ -23,7 +23,7 @@ fn read_on<I: Source>(source: &mut I, buf: &mut [u8]) -> Result<usize, SourceFau
 }
 
 #[test]
-fn memory_forms(rt: HostRuntime) -> Result<(), AllocError> {
+fn shelf_in_memory(rt: HostRuntime) -> Result<(), AllocError> {
     let alloc = rt.alloc();
     let files = vec![in alloc; file(alloc, "p", b"one")?, file(alloc, "p", b"two")?]?;
     let mut shelf = MemShelf::new(files, vec![in alloc; 3]?);
@@ -40,12 +40,22 @@ fn memory_forms(rt: HostRuntime) -> Result<(), AllocError> {
         assert!(rt; into.as_slice() == bytes);
     }
     assert!(rt; shelf.faults == 2 && shelf.failed.as_str() == "absent");
+    Ok(())
+}
 
+#[test]
+fn sink_in_memory(rt: HostRuntime) -> Result<(), AllocError> {
+    let alloc = rt.alloc();
     let mut sink = MemSink::new(Vec::new(alloc), 2, vec![in alloc; 5]?);
     assert!(rt; put(&mut sink, b"hello") == Ok(()));
     assert!(rt; put(&mut sink, b"hello") == Err(SinkFault::Failed));
     assert!(rt; sink.taken.as_slice() == b"hellohe".as_slice() && sink.faults == 1);
+    Ok(())
+}
 
+#[test]
+fn source_in_memory(rt: HostRuntime) -> Result<(), AllocError> {
+    let alloc = rt.alloc();
     let mut source = MemSource::new(Vec::from_slice(alloc, b"abcde")?, 2, vec![in alloc; 2]?);
     let mut buf = [0u8; 4];
     assert!(rt; read_on(&mut source, &mut buf) == Ok(2));

@@ -1,64 +1,67 @@
 use super::*;
 use std::test::Fail;
 
+/// A text, the kind of its first fault, and how many bytes there are from it on.
+type Case = (&'static str, Kind, usize);
+
+static FAULTS: [Case; 24] = [
+    (" Map script 1.", Kind::NoVersion, 13),
+    ("map 1.", Kind::NoVersion, 2),
+    ("map ", Kind::UnexpectedEnd, 0),
+    ("map =", Kind::BadToken, 1),
+    ("map script one.", Kind::Unexpected, 4),
+    ("map script 2.", Kind::Version, 2),
+    ("map script 9223372036854775808.", Kind::NumberTooLarge, 20),
+    ("map script 1", Kind::UnexpectedEnd, 0),
+    ("map script 1.merge 1 at 1,2.", Kind::BadToken, 16),
+    ("map script 1. unfold 1 at 1.", Kind::Unexpected, 14),
+    ("map script 1. 7", Kind::Unexpected, 1),
+    ("map script 1. merge x", Kind::Unexpected, 1),
+    ("map script 1. merge 4294967296 at", Kind::BadNumber, 13),
+    (
+        "map script 1. merge 9223372036854775808 at",
+        Kind::NumberTooLarge,
+        22,
+    ),
+    ("map script 1. merge 1 1,2.", Kind::Unexpected, 4),
+    ("map script 1. merge 1 at 1 2.", Kind::Unexpected, 2),
+    ("map script 1. merge 1 at 1,V.", Kind::Unexpected, 2),
+    ("map script 1. merge 1 at 1,2 3.", Kind::Unexpected, 2),
+    ("map script 1. merge 1 at 1,2", Kind::UnexpectedEnd, 0),
+    ("map script 1. merge 1 at 1,2. %", Kind::BadToken, 1),
+    ("", Kind::UnexpectedEnd, 0),
+    (" \n", Kind::UnexpectedEnd, 0),
+    ("map scripts 1.", Kind::NoVersion, 10),
+    ("map script 01x.", Kind::BadToken, 4),
+];
+
+/// What follows the version line, where one step may be read.
+static LIMITS: [Case; 3] = [
+    ("merge 1 at 1,2. merge 3 at 1,2.", Kind::TooMany, 15),
+    ("merge 1 at 1,2. drop", Kind::Unexpected, 4),
+    ("merge 1 at 1,2. %", Kind::BadToken, 1),
+];
+
+fn first_fault(found: Result<Items<Step>, ReadError>) -> Option<(Kind, usize)> {
+    match found {
+        Err(ReadError::Fault(fault)) => Some((fault.kind, fault.left)),
+        _ => None,
+    }
+}
+
 #[test]
 fn reads_scripts(rt: HostRuntime) -> Result<(), Fail> {
-    let alloc = rt.alloc();
-    let text = b"\tmap\r\nscript 0001 .\nmerge 007 at\n2 , 3 . merge 4294967295 at 0,1.";
-    let found = read_script(alloc, text)?;
+    let text = "\tmap\r\nscript 0001 .\nmerge 007 at\n2 , 3 . merge 4294967295 at 0,1.";
+    let found = read_script(rt.alloc(), text.as_bytes())?;
     assert_eq!(rt; found.len(), 2);
-    let faults: [(&[u8], Kind, usize); 24] = [
-        (b" Map script 1.", Kind::NoVersion, 13),
-        (b"map 1.", Kind::NoVersion, 2),
-        (b"map ", Kind::UnexpectedEnd, 0),
-        (b"map =", Kind::BadToken, 1),
-        (b"map script one.", Kind::Unexpected, 4),
-        (b"map script 2.", Kind::Version, 2),
-        (b"map script 9223372036854775808.", Kind::NumberTooLarge, 20),
-        (b"map script 1", Kind::UnexpectedEnd, 0),
-        (b"map script 1.merge 1 at 1,2.", Kind::BadToken, 16),
-        (b"map script 1. unfold 1 at 1.", Kind::Unexpected, 14),
-        (b"map script 1. 7", Kind::Unexpected, 1),
-        (b"map script 1. merge x", Kind::Unexpected, 1),
-        (b"map script 1. merge 4294967296 at", Kind::BadNumber, 13),
-        (
-            b"map script 1. merge 9223372036854775808 at",
-            Kind::NumberTooLarge,
-            22,
-        ),
-        (b"map script 1. merge 1 1,2.", Kind::Unexpected, 4),
-        (b"map script 1. merge 1 at 1 2.", Kind::Unexpected, 2),
-        (b"map script 1. merge 1 at 1,V.", Kind::Unexpected, 2),
-        (b"map script 1. merge 1 at 1,2 3.", Kind::Unexpected, 2),
-        (b"map script 1. merge 1 at 1,2", Kind::UnexpectedEnd, 0),
-        (b"map script 1. merge 1 at 1,2. %", Kind::BadToken, 1),
-        (b"", Kind::UnexpectedEnd, 0),
-        (b" \n", Kind::UnexpectedEnd, 0),
-        (b"map scripts 1.", Kind::NoVersion, 10),
-        (b"map script 01x.", Kind::BadToken, 4),
-    ];
-    for (text, kind, left) in faults {
-        match read_steps(alloc, text) {
-            Err(ReadError::Fault(fault)) => {
-                assert_eq!(rt; fault.kind, kind);
-                assert_eq!(rt; fault.left, left);
-            }
-            _ => assert!(rt; false),
-        }
+    for (text, kind, left) in FAULTS.iter() {
+        let found = first_fault(read_steps(rt.alloc(), text.as_bytes()));
+        assert_eq!(rt; found, Some((*kind, *left)), "{text}");
     }
-    let limits: [(&[u8], Kind, usize); 3] = [
-        (b"merge 1 at 1,2. merge 3 at 1,2.", Kind::TooMany, 15),
-        (b"merge 1 at 1,2. drop", Kind::Unexpected, 4),
-        (b"merge 1 at 1,2. %", Kind::BadToken, 1),
-    ];
-    for (text, kind, left) in limits {
-        match steps(alloc, &mut Cursor::new(text), 1) {
-            Err(ReadError::Fault(fault)) => {
-                assert_eq!(rt; fault.kind, kind);
-                assert_eq!(rt; fault.left, left);
-            }
-            _ => assert!(rt; false),
-        }
+    for (text, kind, left) in LIMITS.iter() {
+        let mut cursor = Cursor::new(text.as_bytes());
+        let found = first_fault(steps(rt.alloc(), &mut cursor, 1));
+        assert_eq!(rt; found, Some((*kind, *left)), "{text}");
     }
     Ok(())
 }
