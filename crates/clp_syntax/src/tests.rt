@@ -1,7 +1,6 @@
 use super::program::read_clauses;
 use super::{TextError, read_program};
 use clp_tokens::{Kind, ReadError};
-use std::alloc::{AllocError, Global};
 
 /// A text, and how many clauses it has, or what its first fault is and how many bytes there are from it on.
 type Case = (&'static [u8], Result<usize, (usize, Kind)>);
@@ -55,50 +54,4 @@ fn reads_programs(rt: HostRuntime) {
             Err(TextError::NoMemory) => assert!(rt; false, "no memory"),
         }
     }
-}
-
-/// First words, a piece this many times, the words between, and another piece as often, before the last end; and how
-/// many clauses are read, or the kind of the first fault.
-type LimitCase = ([&'static str; 4], usize, Result<usize, Kind>);
-
-static LIMITS: [LimitCase; 8] = [
-    (["", "f(", "X", ")"], 256, Ok(1)),
-    (["", "f(", "X", ")"], 257, Err(Kind::TooDeep)),
-    (["", "n", "", ""], 255, Ok(1)),
-    (["", "n", "", ""], 256, Err(Kind::NameTooLong)),
-    (["n(", "V", ")", ""], 255, Ok(1)),
-    (["n(", "V", ")", ""], 256, Err(Kind::NameTooLong)),
-    (["n", ". n", "", ""], 4095, Ok(4096)),
-    (["n", ". n", "", ""], 4096, Err(Kind::TooMany)),
-];
-
-fn limit_text(alloc: Global, parts: [&str; 4], times: usize) -> Result<String, AllocError> {
-    let [first, piece, between, closing] = parts;
-    let mut text = String::from_str(alloc, first)?;
-    text.push_str(piece.repeat(alloc, times)?.as_str())?;
-    text.push_str(between)?;
-    text.push_str(closing.repeat(alloc, times)?.as_str())?;
-    text.push_str(".")?;
-    Ok(text)
-}
-
-#[test]
-fn reads_up_to_the_limits(rt: HostRuntime) -> Result<(), AllocError> {
-    for (at, case) in LIMITS.iter().enumerate() {
-        let (parts, times, wanted) = *case;
-        let text = limit_text(rt.alloc(), parts, times)?;
-        assert!(rt; text.len() < 100_000);
-        let found = match read_clauses(rt.alloc(), text.as_bytes()) {
-            Ok(clauses) => Ok(clauses.len()),
-            Err(ReadError::Fault(fault)) => Err(fault.kind),
-            Err(ReadError::NoMemory) => return Err(AllocError),
-        };
-        assert_eq!(rt; found, wanted, "case {at}");
-        assert_eq!(rt;
-            read_program(rt.alloc(), text.as_bytes()).is_ok(),
-            wanted.is_ok(),
-            "case {at}"
-        );
-    }
-    Ok(())
 }

@@ -1,5 +1,5 @@
 use clause_core::Limit;
-use clp_syntax::{LoadFault, load, read_program};
+use clp_syntax::{LoadFault, TextError, load, read_program};
 use std::alloc::{AllocError, Global};
 use std::test::Fail;
 
@@ -79,6 +79,34 @@ fn loads_up_to_the_limits(rt: HostRuntime) -> Result<(), Fail> {
             }
             Err(LoadFault::TooLarge(limit)) => Err(limit),
             Err(LoadFault::NoMemory) => return Err(AllocError.into()),
+        };
+        assert_eq!(rt; found, wanted, "case {at}");
+    }
+    Ok(())
+}
+
+/// The parts of a text, how often the pieces stand, and how many clauses it has, if it is a program.
+static TEXTS: [([&str; 5], usize, Option<usize>); 8] = [
+    (["", "f(", "X", ")", "."], 256, Some(1)),
+    (["", "f(", "X", ")", "."], 257, None),
+    (["", "n", "", "", "."], 255, Some(1)),
+    (["", "n", "", "", "."], 256, None),
+    (["n(", "V", ").", "", ""], 255, Some(1)),
+    (["n(", "V", ").", "", ""], 256, None),
+    (["n", ". n", "", "", "."], 4095, Some(4096)),
+    (["n", ". n", "", "", "."], 4096, None),
+];
+
+#[test]
+fn reads_up_to_the_limits(rt: HostRuntime) -> Result<(), Fail> {
+    for (at, case) in TEXTS.iter().enumerate() {
+        let (parts, times, wanted) = *case;
+        let text = clause_text(rt.alloc(), parts, times)?;
+        assert!(rt; text.len() < 20_000_000);
+        let found = match read_program(rt.alloc(), text.as_bytes()) {
+            Ok(source) => Some(source.len()),
+            Err(TextError::Fault) => None,
+            Err(TextError::NoMemory) => return Err(AllocError.into()),
         };
         assert_eq!(rt; found, wanted, "case {at}");
     }
