@@ -1,6 +1,7 @@
 //! The variables of terms, by first occurrence.
 
 ghost use Rattle.std.specs.Prelude.{◌≡◌, ◌<◌, ◌∷◌, nat_eq, length, IfOk, OnOk};
+ghost use Rattle.std.specs.List.{list_any};
 ghost use Rattle.clp_model.specs.Predicates.{with_element, distinct_after};
 ghost use Rattle.clp_model.specs.Trees.{variables, variables_in};
 ghost use Rattle.clp_model.specs.Canonical.{variables_met};
@@ -16,11 +17,22 @@ use term_store::{Look, NoMemory, Store, Term};
 fn meet_number(number: u32, met: &mut Items<u32>) -> Result<(), NoMemory>
     ensures { OnOk result (met.new ≡ with_element nat_eq met.old number) }
 {
-    if met.as_slice().contains(&number) {
+    if is_met(met.as_slice(), number) {
         return Ok(());
     }
     met.push(number)?;
     Ok(())
+}
+
+/// Whether a number is there. Numbers that were met in order are at their own places, where they are looked for first.
+fn is_met(met: &[u32], number: u32) -> bool
+    ensures { result ≡ list_any (nat_eq number) met.now }
+{
+    let place = (number as usize).saturating_sub(1);
+    if met.get(place) == Some(&number) {
+        return true;
+    }
+    met.contains(&number)
 }
 
 /// Adds the numbers of a term's variables that are not there.

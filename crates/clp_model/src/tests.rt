@@ -60,9 +60,11 @@ fn written(alloc: Global, trees: &[Tree]) -> Result<String, AllocError> {
 }
 
 /// A name and a number of arguments.
-static PREDICATES: [(&str, u32); 4] = [
+static PREDICATES: [(&str, u32); 6] = [
     ("p", 2),
     ("", 0),
+    ("a_name_of_16_byt", 1),
+    ("a_name_of_17_byte", 1),
     ("a_longer_name_of_24_bytes", 1),
     ("q", 4_294_967_295),
 ];

@@ -1,3 +1,4 @@
+pub mod Naming
 pub mod Turns
 pub mod Inputs
 pub mod Trees

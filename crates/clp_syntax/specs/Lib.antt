@@ -1,3 +1,4 @@
+pub mod Names
 pub mod Input
 pub mod Grammar
 pub mod Readable

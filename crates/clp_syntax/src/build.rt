@@ -11,9 +11,13 @@ ghost use Rattle.clp_syntax.specs.Sorted.{sorted_tree, sorted_trees};
 ghost use Rattle.clp_syntax.specs.WellFormed.{IsWellFormed};
 
 use clause_core::{RawClause, SourceClause, Tree};
+use smallvec::SmallVec;
 use sqlite_items::Items;
 use std::alloc::Global;
 use term_store::{Sort, Store, Term, TermFault};
+
+/// How many terms lie in the list itself, without memory of their own.
+const INLINE: usize = 8;
 
 fn sort_of(sorts: &[Sort], number: u32) -> Sort
     ensures { result ≡ sort_in sorts.now number }
@@ -46,12 +50,12 @@ fn terms_of(
     store: &mut Store,
     sorts: &[Sort],
     trees: &[Tree],
-) -> Result<Items<Term>, TermFault>
+) -> Result<SmallVec<Term, INLINE>, TermFault>
     ensures keeps { Keeps store.old store.new }
-    ensures made { IfOk result (λ terms. HaveTrees store.new terms (sorted_trees sorts.now trees.now)) }
+    ensures made { IfOk result (λ terms. HaveTrees store.new terms.items (sorted_trees sorts.now trees.now)) }
     ensures large { IsErrOf result TermFault.TooLarge → IsOver (total_size trees.now) (greatest_depth trees.now) }
 {
-    let mut terms = Items::new(alloc);
+    let mut terms = SmallVec::new(alloc);
     for tree in trees {
         let term = term_of(alloc, store, sorts, tree)?;
         terms.push(term)?;
@@ -73,7 +77,8 @@ pub fn raw_of(
 {
     let sorts = source.sorts.as_slice();
     let head = term_of(alloc, store, sorts, &source.head)?;
-    let atoms = terms_of(alloc, store, sorts, source.atoms.as_slice())?;
+    let terms = terms_of(alloc, store, sorts, source.atoms.as_slice())?;
+    let atoms = Items::from_slice(alloc, terms.as_slice())?;
     let sorts = Items::from_slice(alloc, sorts)?;
     Ok(RawClause { head, atoms, sorts })
 }

@@ -7,6 +7,7 @@ mod build;
 mod found;
 mod laws;
 mod loading;
+mod names;
 mod predicates;
 mod print;
 mod program;

@@ -1,24 +1,23 @@
 //! A reader of one text: a cursor over its tokens, and what is known of the clause so far.
 
-ghost use Rattle.std.specs.Prelude.{◌≡◌, ◌<◌, ◌^◌, ◌+◌, length, IfOk, position, IfSome};
-ghost use Rattle.std.specs.Str.{bytes_eq, IsAscii};
+ghost use Rattle.std.specs.Prelude.{◌≡◌, ◌<◌, ◌^◌, ◌+◌, length, IfOk};
+ghost use Rattle.std.specs.Str.{IsAscii};
 ghost use Rattle.clp_tokens.specs.Cursor as cursor;
 ghost use Rattle.clp_tokens.specs.Parsers.{Reads};
 ghost use Rattle.clp_tokens.specs.declared.token.TokenKind.TheVariants.{Name as name_kind, Variable as variable_kind};
 ghost use Rattle.clp_syntax.specs.Input as spec;
 
+use crate::names::{Names, text_of};
 use clp_model::Name;
 use clp_tokens::{Cursor, Fault, Kind, ReadError, TokenKind};
-use sqlite_items::Items;
-use std::alloc::{AllocError, Global};
+use std::alloc::Global;
 use std::marker::Model;
-use std::str;
 
 /// A program's text that is read clause by clause.
 #[derive(Drop)]
 pub struct Reader<'a> {
     cursor: Cursor<'a>,
-    names: Items<Name>,
+    names: Names,
     misplaced: Option<Fault>,
 }
 
@@ -40,7 +39,7 @@ impl<'a> Reader<'a> {
     {
         Reader {
             cursor: Cursor::new(text),
-            names: Items::new(alloc),
+            names: Names::new(alloc),
             misplaced: None,
         }
     }
@@ -50,7 +49,7 @@ impl<'a> Reader<'a> {
     pub fn forget(&mut self, alloc: Global)
         ensures { self.new ≡ spec.anew self.old }
     {
-        self.names = Items::new(alloc);
+        self.names = Names::new(alloc);
         self.misplaced = None;
     }
 
@@ -126,11 +125,11 @@ impl<'a> Reader<'a> {
         ensures { Reads (spec.take_token self.old) result self.new }
     {
         let word = self.take();
-        Ok(name_of(alloc, word)?)
+        Ok(Name::copy_of(alloc, text_of(word))?)
     }
 
     /// The number of the variable that comes next.
-    #[tactic(auto, using(clp_tokens::proofs::Spelled::variable_is_ascii, clp_tokens::proofs::Spelled::token_moves), unfolding(crate::specs::Input::variable))]
+    #[tactic(auto, using(clp_tokens::proofs::Spelled::variable_is_ascii, clp_tokens::proofs::Spelled::variable_has_byte, clp_tokens::proofs::Spelled::token_moves), unfolding(crate::specs::Input::variable))]
     pub fn variable(&mut self, alloc: Global) -> Result<u32, ReadError>
         requires { cursor.kind self.old.text ≡ variable_kind }
         ensures { Reads (spec.variable self.old) result self.new }
@@ -140,30 +139,24 @@ impl<'a> Reader<'a> {
         self.number(alloc, word)
     }
 
-    #[tactic(auto, unfolding(crate::specs::Input::numbered))]
+    #[tactic(auto, unfolding(crate::specs::Input::numbered, crate::specs::Input::fresh))]
     fn number(&mut self, alloc: Global, word: &[u8]) -> Result<u32, ReadError>
         requires ascii { IsAscii word.now }
+        requires named { 0 < length word.now }
         requires room { length self.old.text + length self.old.names + 1 < 2 ^ 32 }
         ensures { Reads (spec.numbered word.now self.old) result self.new }
     {
         if word == b"_".as_slice() {
-            return self.fresh(alloc, &[]);
+            self.names.push_unnamed(alloc)?;
+            return Ok(self.names.len() as u32);
         }
-        match place_of(self.names.as_slice(), word) {
+        match self.names.place_of(word) {
             Some(at) => Ok(at as u32 + 1),
-            None => self.fresh(alloc, word),
+            None => {
+                self.names.push(alloc, word)?;
+                Ok(self.names.len() as u32)
+            }
         }
-    }
-
-    #[tactic(auto, unfolding(crate::specs::Input::fresh))]
-    fn fresh(&mut self, alloc: Global, word: &[u8]) -> Result<u32, ReadError>
-        requires ascii { IsAscii word.now }
-        requires room { length self.old.text + length self.old.names + 1 < 2 ^ 32 }
-        ensures { Reads (spec.fresh word.now self.old) result self.new }
-    {
-        let name = name_of(alloc, word)?;
-        self.names.push(name)?;
-        Ok(self.names.len() as u32)
     }
 
     /// How many variables the clause has so far.
@@ -192,24 +185,5 @@ impl<'a> Reader<'a> {
             None => Ok(()),
             Some(fault) => Err(ReadError::Fault(fault)),
         }
-    }
-}
-
-fn place_of(names: &[Name], word: &[u8]) -> Option<usize>
-    ensures value { result ≡ position (bytes_eq word.now) names.now }
-    ensures within { IfSome result (λ at. at < length names.now) }
-{
-    names
-        .iter()
-        .position(|known| word == known.as_str().as_bytes())
-}
-
-fn name_of(alloc: Global, word: &[u8]) -> Result<Name, AllocError>
-    requires { IsAscii word.now }
-    ensures { IfOk result (λ n. n ≡ word.now) }
-{
-    match str::from_utf8(word) {
-        Ok(text) => Name::copy_of(alloc, text),
-        Err(_) => unreachable!(),
     }
 }

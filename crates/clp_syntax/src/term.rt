@@ -16,6 +16,9 @@ use std::alloc::Global;
 /// How many brackets may be open at a place.
 pub const MAX_OPEN: usize = 256;
 
+/// How many arguments there is room for at first: most applications have no more.
+const FEW: usize = 2;
+
 /// A term, where this many more brackets may be open.
 #[cycle(term)]
 #[tactic(auto, unfolding(crate::specs::Grammar::term_with))]
@@ -63,7 +66,7 @@ fn arguments(alloc: Global, reader: &mut Reader<'_>, more: usize) -> Result<Item
 fn terms(alloc: Global, reader: &mut Reader<'_>, more: usize) -> Result<Items<Tree>, ReadError>
     ensures { Reads (input.separated (spec.term more) reader.old) result reader.new }
 {
-    let mut found = Items::new(alloc);
+    let mut found = Items::from_vec(Vec::with_capacity(alloc, FEW)?);
     for _turn in 0..reader.left() {
         found.push(term(alloc, reader, more)?)?;
         if !reader.eat(TokenKind::Comma) {

@@ -1,5 +1,6 @@
 use super::program::read_clauses;
 use super::{TextError, read_program};
+use clp_model::{SourceClause, Tree};
 use clp_tokens::{Kind, ReadError};
 
 /// A text, and how many clauses it has, or what its first fault is and how many bytes there are from it on.
@@ -52,6 +53,56 @@ fn reads_programs(rt: HostRuntime) {
             Ok(found) => assert_eq!(rt; Ok(found.len()), wanted, "case {at}"),
             Err(TextError::Fault) => assert!(rt; wanted.is_err(), "case {at}"),
             Err(TextError::NoMemory) => assert!(rt; false, "no memory"),
+        }
+    }
+}
+
+/// A fact over variables alone, and their numbers.
+type Numbering = (&'static str, &'static [u32]);
+
+static NUMBERINGS: [Numbering; 4] = [
+    ("p(A).", &[1]),
+    ("p(A,B,A,_,_,B,_A,__,_).", &[1, 2, 1, 3, 4, 2, 5, 6, 7]),
+    (
+        "p(A,B,C,D,E,F,G,H,I,J,K,L,M,N,O,P,Q,P,Q,A,R,_,R,Q).",
+        &[
+            1, 2, 3, 4, 5, 6, 7, 8, 9, 10, 11, 12, 13, 14, 15, 16, 17, 16, 17, 1, 18, 19, 18, 17,
+        ],
+    ),
+    (
+        "p(_,_,_,_,_,_,_,_,_,_,_,_,_,_,_,_,A,_,B,A,B,_,C,B,C).",
+        &[
+            1, 2, 3, 4, 5, 6, 7, 8, 9, 10, 11, 12, 13, 14, 15, 16, 17, 18, 19, 17, 19, 20, 21, 19,
+            21,
+        ],
+    ),
+];
+
+/// Whether the clause's head has these variables in order.
+fn has_variables(clause: &SourceClause, numbers: &[u32]) -> bool {
+    let Tree::App(_, args) = &clause.head else {
+        return false;
+    };
+    let args = args.as_slice();
+    args.len() == numbers.len()
+        && args.iter().zip(numbers).all(|(
+            arg,
+            number,
+        )| matches!(arg, Tree::Var(found) if found == number))
+}
+
+#[test]
+fn numbers_variables(rt: HostRuntime) {
+    for (text, numbers) in NUMBERINGS.iter() {
+        assert!(rt; text.len() < 4096);
+        match read_program(rt.alloc(), text.as_bytes()) {
+            Ok(clauses) => {
+                assert_eq!(rt; clauses.len(), 1);
+                for clause in clauses.as_slice() {
+                    assert!(rt; has_variables(clause, numbers), "{text}");
+                }
+            }
+            Err(_) => assert!(rt; false, "{text}"),
         }
     }
 }

@@ -245,6 +245,15 @@ token_moves text h = go (skip_white text) (skip_white_within text) h
         moved : (n : ℕ) → 0 < n → length (drop n (b ∷ z)) < length text
         moved n p = omega (arith, length-drop n (b ∷ z))
 
+-- a variable has a byte at least
+pub variable_has_byte : (text : List ℕ) → kind text ≡ k.Variable → 0 < length (spelling text)
+unfolding kind spelling token
+variable_has_byte text h = go (ahead text) h
+  where
+    go : (z : List ℕ) → (token z).kind ≡ k.Variable → 0 < length (take (token z).len z)
+    go [] h = cc
+    go (b ∷ z) h = omega (arith, token_positive b z, length-take (token (b ∷ z)).len (b ∷ z))
+
 pub next_within : (text : List ℕ) → length (next text) ≤ length text
 unfolding next ahead
 next_within text = omega (arith, length-drop (token (skip_white text)).len (skip_white text), skip_white_within text)

@@ -1,9 +1,10 @@
 -- A text that is read token by token: the text after the last token.
-use Rattle.std.specs.Prelude.{ℕ, Bool, if◌then◌else◌, List, length, take, drop, Ok, Err}
+use Rattle.std.specs.Prelude.{◌≡◌, ◌≤◌, ℕ, Bool, if◌then◌else◌, List, length, take, drop, Ok, Err}
 use denote.Enum.Bare.{sameb}
 use Rattle.clp_tokens.specs.contracts.token.TokenKind.{the_type}
 use Rattle.clp_tokens.specs.declared.token.TokenKind.{TokenKind}
 use Rattle.clp_tokens.specs.declared.token.TokenKind.TheVariants as k
+use Rattle.clp_tokens.specs.declared.token.Token.{Token}
 use Rattle.clp_tokens.specs.declared.fault.Kind.{Kind}
 use Rattle.clp_tokens.specs.declared.fault.Kind.TheVariants as fault
 use Rattle.clp_tokens.specs.declared.fault.Fault.{Fault}
@@ -13,6 +14,12 @@ use Rattle.clp_tokens.specs.Parsers.{Parser}
 -- the text from the next token on
 unfoldable pub ahead : List ℕ → List ℕ
 ahead text = skip_white text
+
+-- what a cursor keeps of its text: the text from the next token on, and that token
+pub record LooksAhead (text kept : List ℕ) (next : Token) : Type 0 where
+  pub ahead : kept ≡ ahead text
+  pub token : next ≡ token kept
+  pub within : next.len ≤ length kept
 
 -- the next token's kind
 unfoldable pub kind : List ℕ → TokenKind

@@ -9,7 +9,7 @@ ghost use Rattle.clp_tokens.specs.declared.token.TokenKind.TheVariants.{Number a
 
 use crate::fault::{Fault, Kind};
 use crate::number::number_value;
-use crate::token::{TokenKind, first_token, skip_white};
+use crate::token::{Token, TokenKind, first_token, skip_white};
 use std::marker::Model;
 
 /// A text that is read token by token.
@@ -18,14 +18,21 @@ use std::marker::Model;
 #[derive(Drop)]
 pub struct Cursor<'a> {
     text: &'a [u8],
+    /// The text from the next token on.
+    ahead: &'a [u8],
+    /// The next token, which is looked at more often than it is taken.
+    token: Token,
 }
 
 impl<'a> Model for Cursor<'a> {
     ghost use Rattle.std.specs.Prelude.{List, ℕ};
+    ghost use Rattle.clp_tokens.specs.Cursor.{LooksAhead};
 
     ghost Value = { List ℕ };
 
     ghost view = { λ c. c.text.now };
+
+    ghost invariant = { λ c. LooksAhead c.text.now c.ahead.now c.token };
 }
 
 #[tactic(auto, unfolding(crate::specs::Cursor::same_kind))]
@@ -51,17 +58,13 @@ fn reason(kind: TokenKind) -> Kind
 
 impl<'a> Cursor<'a> {
     /// A cursor before the first token.
+    #[tactic(auto, unfolding(crate::specs::Cursor::ahead))]
     pub fn new(text: &'a [u8]) -> Cursor<'a>
         ensures { result ≡ text.now }
     {
-        Cursor { text }
-    }
-
-    #[tactic(auto, unfolding(crate::specs::Cursor::ahead))]
-    fn ahead(&self) -> &'a [u8]
-        ensures { result.now ≡ spec.ahead self.now }
-    {
-        skip_white(self.text)
+        let ahead = skip_white(text);
+        let token = first_token(ahead);
+        Cursor { text, ahead, token }
     }
 
     /// The kind of the next token.
@@ -69,7 +72,7 @@ impl<'a> Cursor<'a> {
     pub fn peek(&self) -> TokenKind
         ensures { result ≡ spec.kind self.now }
     {
-        first_token(self.ahead()).kind
+        self.token.kind
     }
 
     /// How many bytes there are from the next token on.
@@ -77,7 +80,7 @@ impl<'a> Cursor<'a> {
     pub fn left(&self) -> usize
         ensures { result ≡ spec.left self.now }
     {
-        self.ahead().len()
+        self.ahead.len()
     }
 
     /// A fault of this kind at the next token.
@@ -105,10 +108,8 @@ impl<'a> Cursor<'a> {
         ensures text { result.now ≡ spec.spelling self.old }
         ensures next { self.new ≡ spec.next self.old }
     {
-        let ahead = skip_white(self.text);
-        let token = first_token(ahead);
-        let (spelling, rest) = ahead.split_at(token.len);
-        self.text = rest;
+        let (spelling, rest) = self.ahead.split_at(self.token.len);
+        *self = Cursor::new(rest);
         spelling
     }
 

@@ -1,4 +1,5 @@
 pub mod Keeping
 pub mod Built
+pub mod Growing
 pub mod Applications
 pub mod Copies

@@ -35,6 +35,14 @@ impl From<AllocError> for TermFault {
     }
 }
 
+impl<T: Drop> From<AllocFailed<T>> for TermFault {
+    ghost from_gives = { λ _ e. e ≡ NoMemory };
+
+    fn from(_e: AllocFailed<T>) -> TermFault {
+        TermFault::NoMemory
+    }
+}
+
 impl From<NoMemory> for TermFault {
     ghost from_gives = { λ _ e. e ≡ NoMemory };
 

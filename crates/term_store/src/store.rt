@@ -2,25 +2,39 @@ ghost use Rattle.std.specs.Prelude.{◌≡◌, ℕ, ◌+◌, ◌<◌, ◌≤◌,
 ghost use Rattle.clp_model.specs.declared.tree.Tree.{App};
 ghost use Rattle.clp_model.specs.Trees.{size, depth, total_size, greatest_depth};
 ghost use Rattle.term_store.specs.Trees.{tree_at, trees_at, variable, AreIn, HasTree, HaveTrees, Keeps, IsSmall, IsOver, IsTooLarge};
-ghost use Rattle.term_store.specs.Entries.{tree_of, IsEntry, Stands};
+ghost use Rattle.term_store.specs.Entries.{part, tree_of, IsPart, IsVariable, Measures, IsEntry, built, AreEntries};
 ghost use Rattle.term_store.specs.Shows.{Shows};
 
 use crate::fault::{NoMemory, TermFault};
 use crate::term::{Look, Term};
 use clp_model::{Name, Sort};
+use smallvec::SmallVec;
 use sqlite_items::Items;
 use std::alloc::Global;
 use std::cmp::max;
 use std::marker::Model;
 
+/// How many copied arguments lie in their list itself, without memory of their own.
+const INLINE: usize = 8;
+
 const MAX_SIZE: u32 = 4096;
 
 const MAX_DEPTH: u32 = 256;
 
+/// The greatest number of a variable that is found again. A clause of the limits has no larger one.
+const MAX_NOTED: usize = 256;
+
+/// Where the arguments of an application lie among those of all applications of its store.
+#[derive(Clone, Copy)]
+struct Span {
+    start: usize,
+    end: usize,
+}
+
 #[derive(Drop)]
 enum Node {
     Var(u32, Sort),
-    App(Name, Items<Term>),
+    App(Name, Span),
 }
 
 #[derive(Drop)]
@@ -35,6 +49,10 @@ struct Entry {
 pub struct Store {
     alloc: Global,
     entries: Vec<Entry>,
+    /// The arguments of all applications, one application after another.
+    arguments: Vec<Term>,
+    /// By their numbers, the terms that may be variables of these numbers: they are looked at before they are used.
+    noted: Vec<Term>,
 }
 
 impl Model for Store {
@@ -51,9 +69,72 @@ impl Model for Store {
 
     ghost use Rattle.term_store.specs.Entries.{built, AreEntries};
 
-    ghost view = { λ s. built [] s.entries.items };
+    ghost view = { λ s. built s.arguments.items [] s.entries.items };
 
-    ghost invariant = { λ s. AreEntries [] s.entries.items };
+    ghost invariant = { λ s. AreEntries s.arguments.items [] s.entries.items };
+}
+
+/// Puts an entry last.
+fn put(entries: &mut Vec<Entry>, arguments: &[Term], entry: Entry) -> Result<Term, NoMemory>
+    requires are { AreEntries arguments.now [] entries.old.items }
+    requires may_follow { IsEntry arguments.now (built arguments.now [] entries.old.items) entry }
+    ensures are { AreEntries arguments.now [] entries.new.items }
+    ensures keeps { Keeps (built arguments.now [] entries.old.items) (built arguments.now [] entries.new.items) }
+    ensures made { IfOk result (λ t. HasTree (built arguments.now [] entries.new.items) t
+        (tree_of arguments.now (built arguments.now [] entries.old.items) entry.node)) }
+{
+    let place = entries.len();
+    entries.push(entry)?;
+    Ok(Term { place })
+}
+
+/// Puts the arguments of an application last.
+fn put_arguments(arguments: &mut Vec<Term>, args: &[Term]) -> Result<Span, NoMemory>
+    ensures put { IfOk result (IsPart arguments.new.items args.now) }
+    ensures ok { OnOk result (arguments.new.items ≡ arguments.old.items ++ args.now) }
+    ensures err { OnErr result (arguments.new.items ≡ arguments.old.items) }
+{
+    let start = arguments.len();
+    arguments.extend_from_slice(args)?;
+    let end = arguments.len();
+    Ok(Span { start, end })
+}
+
+/// The term that is noted for this number, if it is the variable of this number and sort.
+fn find_variable(entries: &[Entry], noted: &[Term], number: u32, sort: Sort) -> Option<Term>
+    ensures { IfSome result (IsVariable entries.now number sort) }
+{
+    let t = *noted.get(number as usize)?;
+    if t.place >= entries.len() {
+        return None;
+    }
+    let entry = &entries[t.place];
+    match entry.node {
+        Node::Var(n, s) if n == number && s == sort => Some(t),
+        _ => None,
+    }
+}
+
+/// Notes a variable, unless its number is large.
+fn note_variable(noted: &mut Vec<Term>, number: u32, t: Term) -> Result<(), NoMemory> {
+    let number = number as usize;
+    if number > MAX_NOTED {
+        return Ok(());
+    }
+    match noted.get_mut(number) {
+        Some(place) => *place = t,
+        None => noted.resize(number + 1, t)?,
+    }
+    Ok(())
+}
+
+/// The arguments of one application.
+fn part(arguments: &[Term], span: Span) -> &[Term]
+    requires order { span.start ≤ span.end }
+    requires within { span.end ≤ length arguments.now }
+    ensures { result.now ≡ part arguments.now span }
+{
+    &arguments[span.start..span.end]
 }
 
 impl Store {
@@ -64,6 +145,8 @@ impl Store {
         Store {
             alloc,
             entries: Vec::new(alloc),
+            arguments: Vec::new(alloc),
+            noted: Vec::new(alloc),
         }
     }
 
@@ -76,19 +159,26 @@ impl Store {
 
     fn entry(&self, t: Term) -> &Entry
         requires { t < length self.now }
-        ensures { Stands self.now t result.now }
+        ensures { Measures (tree_at self.now t) result.now.size result.now.depth }
     {
         &self.entries[t.place]
     }
 
-    fn add(&mut self, entry: Entry) -> Result<Term, NoMemory>
-        requires { IsEntry self.old entry }
+    /// An application whose size and depth are known.
+    #[tactic(auto, using(clp_model::proofs::Trees::size_app, clp_model::proofs::Trees::depth_app))]
+    fn add(&mut self, name: &str, args: &[Term], size: u32, depth: u32) -> Result<Term, NoMemory>
+        requires within { AreIn self.old args.now }
+        requires size { size ≡ 1 + total_size (trees_at self.old args.now) }
+        requires depth { depth ≡ 1 + greatest_depth (trees_at self.old args.now) }
+        requires small { (size ≤ 4096) × (depth ≤ 256) }
         ensures keeps { Keeps self.old self.new }
-        ensures made { IfOk result (λ t. HasTree self.new t (tree_of self.old entry.node)) }
+        ensures made { IfOk result (λ t. HasTree self.new t (App name.now (trees_at self.old args.now))) }
     {
-        let place = self.entries.len();
-        self.entries.push(entry)?;
-        Ok(Term { place })
+        let name = Name::copy_of(self.alloc, name)?;
+        let span = put_arguments(&mut self.arguments, args)?;
+        let node = Node::App(name, span);
+        let entry = Entry { node, size, depth };
+        put(&mut self.entries, self.arguments.as_slice(), entry)
     }
 
     /// The variable of this number and sort.
@@ -97,11 +187,18 @@ impl Store {
         ensures keeps { Keeps self.old self.new }
         ensures made { IfOk result (λ t. HasTree self.new t (variable number sort)) }
     {
-        self.add(Entry {
+        let found = find_variable(self.entries.as_slice(), self.noted.as_slice(), number, sort);
+        if let Some(t) = found {
+            return Ok(t);
+        }
+        let entry = Entry {
             node: Node::Var(number, sort),
             size: 1,
             depth: 1,
-        })
+        };
+        let t = put(&mut self.entries, self.arguments.as_slice(), entry)?;
+        note_variable(&mut self.noted, number, t)?;
+        Ok(t)
     }
 
     /// The number of nodes of a term.
@@ -128,9 +225,11 @@ impl Store {
         ensures shows { Shows self.now (tree_at self.now t) result }
         ensures small { IsSmall (tree_at self.now t) }
     {
-        match &self.entry(t).node {
+        match &self.entries[t.place].node {
             Node::Var(number, sort) => Look::Var(*number, *sort),
-            Node::App(name, args) => Look::App(name.as_str(), args.as_slice()),
+            Node::App(name, span) => {
+                Look::App(name.as_str(), part(self.arguments.as_slice(), *span))
+            }
         }
     }
 
@@ -170,10 +269,7 @@ impl Store {
         let Some((size, depth)) = self.measure(args) else {
             return Err(TermFault::TooLarge);
         };
-        let name = Name::copy_of(self.alloc, name)?;
-        let args = Items::from_slice(self.alloc, args)?;
-        let node = Node::App(name, args);
-        Ok(self.add(Entry { node, size, depth })?)
+        Ok(self.add(name, args, size, depth)?)
     }
 
     /// Whether two terms have equal trees.
@@ -207,40 +303,42 @@ impl Store {
 
     /// A term of this store with the tree that a term has in another store.
     #[cycle(copy)]
-    #[tactic(auto, using(clp_model::proofs::Trees::size_app))]
+    #[tactic(auto, using(clp_model::proofs::Trees::size_app, clp_model::proofs::Trees::depth_app))]
     pub fn copy(&mut self, from: &Store, t: Term) -> Result<Term, NoMemory>
         requires { t < length from.now }
         ensures keeps { Keeps self.old self.new }
         ensures made { IfOk result (λ c. HasTree self.new c (tree_at from.now t)) }
     {
-        let entry = from.entry(t);
-        match &entry.node {
-            Node::Var(number, sort) => self.var(*number, *sort),
-            Node::App(name, args) => {
-                let copies = self.copy_all(from, args.as_slice())?;
-                let name = Name::copy_of(self.alloc, name.as_str())?;
-                let node = Node::App(name, copies);
-                self.add(Entry {
-                    node,
-                    size: entry.size,
-                    depth: entry.depth,
-                })
+        match from.look(t) {
+            Look::Var(number, sort) => self.var(number, sort),
+            Look::App(name, args) => {
+                let copies = self.copies(from, args)?;
+                self.add(name, copies.as_slice(), from.size(t), from.depth(t))
             }
         }
     }
 
-    /// The same of several terms, in order.
     #[cycle(copy)]
-    pub fn copy_all(&mut self, from: &Store, args: &[Term]) -> Result<Items<Term>, NoMemory>
+    fn copies(&mut self, from: &Store, args: &[Term]) -> Result<SmallVec<Term, INLINE>, NoMemory>
         requires { AreIn from.now args.now }
         ensures keeps { Keeps self.old self.new }
-        ensures made { IfOk result (λ copies. HaveTrees self.new copies (trees_at from.now args.now)) }
+        ensures made { IfOk result (λ copies. HaveTrees self.new copies.items (trees_at from.now args.now)) }
     {
-        let mut copies = Items::new(self.alloc);
+        let mut copies = SmallVec::new(self.alloc);
         for arg in args {
             let copy = self.copy(from, *arg)?;
             copies.push(copy)?;
         }
         Ok(copies)
+    }
+
+    /// The same of several terms, in order.
+    pub fn copy_all(&mut self, from: &Store, args: &[Term]) -> Result<Items<Term>, NoMemory>
+        requires { AreIn from.now args.now }
+        ensures keeps { Keeps self.old self.new }
+        ensures made { IfOk result (λ copies. HaveTrees self.new copies (trees_at from.now args.now)) }
+    {
+        let copies = self.copies(from, args)?;
+        Ok(Items::from_slice(self.alloc, copies.as_slice())?)
     }
 }

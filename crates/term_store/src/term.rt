@@ -1,8 +1,8 @@
 use clp_model::Sort;
 use std::marker::Model;
 
-/// A term of a store, by its place there.
-#[derive(Clone, Copy, Debug, PartialEq, Eq, Hash)]
+/// A term of a store, by its place there. The default is the first place, in any store.
+#[derive(Clone, Copy, Debug, Default, PartialEq, Eq, Hash)]
 pub struct Term {
     pub(crate) place: usize,
 }

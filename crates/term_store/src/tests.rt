@@ -71,6 +71,29 @@ fn terms_and_copies(rt: HostRuntime) -> Result<(), Fail> {
     Ok(())
 }
 
+/// Numbers and sorts of variables, some of them again.
+static VARIABLES: [(u32, Sort); 9] = [
+    (1, Sort::Any),
+    (1, Sort::Num),
+    (1, Sort::Any),
+    (0, Sort::Any),
+    (256, Sort::Num),
+    (257, Sort::Num),
+    (256, Sort::Num),
+    (257, Sort::Num),
+    (4_294_967_295, Sort::Any),
+];
+
+#[test]
+fn variables(rt: HostRuntime) -> Result<(), Fail> {
+    let mut store = Store::new(rt.alloc());
+    for (number, sort) in VARIABLES.iter() {
+        let t = store.var(*number, *sort)?;
+        assert!(rt; is_so(&store, t, &(Kind::Var(*number, *sort), 1, 1)));
+    }
+    Ok(())
+}
+
 /// The name of a second term, whether its arguments are swapped, and whether it is `g(12,1)`.
 static SECOND: [(&str, bool, bool); 3] = [
     ("g", false, true),

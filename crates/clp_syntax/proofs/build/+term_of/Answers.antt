@@ -15,7 +15,7 @@ term_of-returns-in_ok-terms-in-App-clause-large t c = λ h.
 pub terms_of-loop-tree-preserved : goal.terms_of-loop-tree-preserved
 terms_of-loop-tree-preserved t c = record {
   keeps = keeps_trans c.args.store.now c.loop-tree.store c.term_of.new.store c.loop-tree.invariant.keeps c.term_of.ensures.keeps;
-  made = sorted_more c.args.sorts.now c.loop-tree.store c.term_of.new.store c.args.trees.now c.loop-tree.terms c.push.new.self c.loop-tree.tree-index c.in_ok-term.term c.tree-item.result
+  made = sorted_more c.args.sorts.now c.loop-tree.store c.term_of.new.store c.args.trees.now c.loop-tree.terms.items c.push.new.self.items c.loop-tree.tree-index c.in_ok-term.term c.tree-item.result
       c.loop-tree.invariant.made c.term_of.ensures.keeps (omega arith) c.tree-item.is c.in_ok-term.ensures.made c.in_ok-push.ensures.ok;
 }
 

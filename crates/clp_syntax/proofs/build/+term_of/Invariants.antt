@@ -6,5 +6,5 @@ use Rattle.clp_syntax.proofs.build.+term_of.Given as goal
 abbrev pub invariant-terms_of-loop-tree : goal.invariant-terms_of-loop-tree
 invariant-terms_of-loop-tree l = record {
   keeps : Keeps l.fn.store l.store;
-  made : HaveTrees l.store l.terms (sorted_trees l.sorts (take l.tree-index l.trees));
+  made : HaveTrees l.store l.terms.items (sorted_trees l.sorts (take l.tree-index l.trees));
 }
