@@ -1,5 +1,5 @@
 -- Names are found at their places.
-use Rattle.std.proofs.Common.{◌≡◌, ℕ, ◌+◌, ◌<◌, ◌≤◌, Bool, true, false, cond, nat_lt, List, [], ◌∷◌, ◌++◌, length, take, drop, map, position, Option, None, Some, refl, ap, ◌∙◌, sym, subst, arith, add-zero, take-append-drop, append_assoc}
+use Rattle.std.proofs.Common.{◌≡◌, ℕ, ◌+◌, ◌<◌, ◌≤◌, Bool, true, false, cond, nat_lt, List, [], ◌∷◌, ◌++◌, length, take, drop, position, Option, None, Some, refl, ap, ◌∙◌, sym, subst, arith, add-zero, take-append-drop}
 use Rattle.std.specs.Prelude.{string_bytes}
 use Rattle.std.specs.List.{position_from, position_or_len}
 use Rattle.std.specs.Map.{lookup}

@@ -1,4 +1,4 @@
-ghost use Rattle.std.specs.Prelude.{◌≡◌, ℕ, ◌+◌, ◌<◌, ◌≤◌, ◌++◌, ◌∷◌, [], List, length, IfOk, IfSome, IfNone, OnOk, OnErr, IsErrOf, IsTrue, ◌↔◌};
+ghost use Rattle.std.specs.Prelude.{◌≡◌, ℕ, ◌+◌, ◌<◌, ◌≤◌, ◌++◌, ◌∷◌, [], List, length, slice_get, Some, IfOk, IfSome, IfNone, OnOk, OnErr, IsErrOf, IsTrue, ◌↔◌};
 ghost use Rattle.clp_model.specs.declared.tree.Tree.{App};
 ghost use Rattle.clp_model.specs.Trees.{size, depth, total_size, greatest_depth};
 ghost use Rattle.term_store.specs.Trees.{tree_at, trees_at, variable, AreIn, HasTree, HaveTrees, Keeps, IsSmall, IsOver, IsTooLarge};
@@ -116,7 +116,9 @@ fn find_variable(entries: &[Entry], noted: &[Term], number: u32, sort: Sort) -> 
 }
 
 /// Notes a variable, unless its number is large.
-fn note_variable(noted: &mut Vec<Term>, number: u32, t: Term) -> Result<(), NoMemory> {
+fn note_variable(noted: &mut Vec<Term>, number: u32, t: Term) -> Result<(), NoMemory>
+    ensures { OnOk result (number ≤ 256 → slice_get noted.new.items number ≡ Some t) }
+{
     let number = number as usize;
     if number > MAX_NOTED {
         return Ok(());

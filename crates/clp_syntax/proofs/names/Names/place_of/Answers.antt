@@ -1,4 +1,4 @@
-use Rattle.std.proofs.Common.{◌≡◌, ◌∙◌, ◌≤◌, length, take, sym, ap, arith}
+use Rattle.std.proofs.Common.{◌∙◌, ◌≤◌, length, take, sym, ap, arith}
 use Rattle.std.specs.Map.{lookup}
 use Rattle.std.specs.List.{position}
 use Rattle.std.specs.Str.{bytes_eq}

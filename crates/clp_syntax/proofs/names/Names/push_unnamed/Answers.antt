@@ -1,4 +1,4 @@
-use Rattle.std.proofs.Common.{◌≡◌, ◌∙◌, ◌++◌, ◌∷◌, [], sym, ap, drop}
+use Rattle.std.proofs.Common.{◌∙◌, ◌++◌, ◌∷◌, [], sym, ap, drop}
 use Rattle.clp_syntax.specs.Names.{few, placed}
 use Rattle.clp_syntax.proofs.Naming.{unnamed_later}
 use Rattle.clp_syntax.proofs.names.Names.push_unnamed.Goals as goal
