@@ -1,7 +1,10 @@
+ghost use Rattle.std.specs.Prelude.{◌<◌, ◌^◌, length};
+
 use super::program::read_clauses;
 use super::{TextError, read_program};
 use clp_model::{SourceClause, Tree};
 use clp_tokens::{Kind, ReadError};
+use std::alloc::Global;
 
 /// A text, and how many clauses it has, or what its first fault is and how many bytes there are from it on.
 type Case = (&'static [u8], Result<usize, (usize, Kind)>);
@@ -78,31 +81,42 @@ static NUMBERINGS: [Numbering; 4] = [
     ),
 ];
 
-/// Whether the clause's head has these variables in order.
-fn has_variables(clause: &SourceClause, numbers: &[u32]) -> bool {
-    let Tree::App(_, args) = &clause.head else {
+/// Whether the arguments are these variables in order.
+fn are_variables(args: &[Tree], numbers: &[u32]) -> bool {
+    if args.len() != numbers.len() {
+        return false;
+    }
+    for (at, number) in numbers.iter().enumerate() {
+        match args.get(at) {
+            Some(Tree::Var(found)) if found == number => {}
+            _ => return false,
+        }
+    }
+    true
+}
+
+/// Whether the text is read as one clause whose head has these variables in order.
+fn has_variables(alloc: Global, text: &str, numbers: &[u32]) -> bool
+    requires { length text.now < 2 ^ 32 }
+{
+    let Ok(clauses) = read_program(alloc, text.as_bytes()) else {
         return false;
     };
-    let args = args.as_slice();
-    args.len() == numbers.len()
-        && args.iter().zip(numbers).all(|(
-            arg,
-            number,
-        )| matches!(arg, Tree::Var(found) if found == number))
+    match clauses.get(0) {
+        Some(
+            SourceClause {
+                head: Tree::App(_, args),
+                ..
+            },
+        ) => clauses.len() == 1 && are_variables(args.as_slice(), numbers),
+        _ => false,
+    }
 }
 
 #[test]
 fn numbers_variables(rt: HostRuntime) {
     for (text, numbers) in NUMBERINGS.iter() {
         assert!(rt; text.len() < 4096);
-        match read_program(rt.alloc(), text.as_bytes()) {
-            Ok(clauses) => {
-                assert_eq!(rt; clauses.len(), 1);
-                for clause in clauses.as_slice() {
-                    assert!(rt; has_variables(clause, numbers), "{text}");
-                }
-            }
-            Err(_) => assert!(rt; false, "{text}"),
-        }
+        assert!(rt; has_variables(rt.alloc(), text, numbers), "{text}");
     }
 }
