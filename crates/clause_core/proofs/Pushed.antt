@@ -1,5 +1,5 @@
 -- Terms put one after another: for the tests of limits.
-use Rattle.std.proofs.Common.{◌≡◌, ℕ, ◌+◌, ◌<◌, List, [], ◌∷◌, ◌++◌, length, get_or, All, refl, ap, ◌∙◌, sym, subst, arith, append_assoc, add-one}
+use Rattle.std.proofs.Common.{◌≡◌, ℕ, zero, suc, ◌+◌, ◌<◌, List, [], ◌∷◌, ◌++◌, length, replicate, get_or, All, refl, ap, ◌∙◌, sym, subst, arith, append_assoc, add-one}
 use Rattle.std.proofs.lemmas.List.{append-nil}
 use Rattle.std.proofs.lemmas.List.Elements.{All-nil, All-cons, All-append, All-push}
 use Rattle.clp_model.specs.declared.sort.Sort.{Sort}
@@ -9,7 +9,7 @@ use Rattle.clp_model.specs.declared.tree.Tree.{Tree, App}
 use Rattle.clp_model.specs.Trees.{variables, variables_in, IsApplication}
 use Rattle.clp_model.specs.Clauses.{sort_in}
 use Rattle.clp_model.proofs.Trees.{variables_app, variables_var, application_app}
-use Rattle.term_store.specs.Trees.{variable, trees_at, AreIn, HasTree, Keeps}
+use Rattle.term_store.specs.Trees.{variable, tree_at, trees_at, AreIn, HasTree, Keeps}
 use Rattle.term_store.proofs.Keeping.{keeps_refl, have_push}
 use Rattle.clause_core.specs.Stored.{HasSort, AreParts}
 
@@ -41,11 +41,21 @@ sorted_more old new terms sorts term tree are keeps has each =
 closed : (sorts : List Sort) (name : List ℕ) → All (HasSort sorts) (variables (App name []))
 closed sorts name = let P : List Variable → Type 0 = All (HasSort sorts) in subst P (sym (variables_app name [])) (All-nil (HasSort sorts))
 
--- one more constant
-pub sorted_constant : (store : List (Tree Variable)) (terms : List ℕ) (sorts : List Sort) (term : ℕ) (name : List ℕ)
-    → AreSorted store terms sorts → HasTree store term (App name []) → AreSorted store (terms ++ term ∷ []) sorts
-sorted_constant store terms sorts term name are has =
-    sorted_more store store terms sorts term (App name []) are (keeps_refl store) has (closed sorts name)
+-- a constant before them
+sorted_before : (store : List (Tree Variable)) (terms : List ℕ) (sorts : List Sort) (term : ℕ) (name : List ℕ)
+    → HasTree store term (App name []) → AreSorted store terms sorts → AreSorted store (term ∷ terms) sorts
+sorted_before store terms sorts term name has are =
+    let P : Tree Variable → Type 0 = λ t. All (HasSort sorts) (variables_in (t ∷ trees_at store terms)) in
+    record {
+      within = (has.within, are.within);
+      sorted = subst P (sym has.is) (All-append (HasSort sorts) (variables (App name [])) (variables_in (trees_at store terms)) (closed sorts name) are.sorted);
+    }
+
+-- so many times a constant
+pub sorted_constants : (store : List (Tree Variable)) (sorts : List Sort) (term : ℕ) (name : List ℕ) (n : ℕ)
+    → HasTree store term (App name []) → AreSorted store (replicate n term) sorts
+sorted_constants store sorts term name zero has = sorted_nil store sorts
+sorted_constants store sorts term name (suc n) has = sorted_before store (replicate n term) sorts term name has (sorted_constants store sorts term name n has)
 
 has_sort : (sorts : List Sort) (place : ℕ) (s : Sort) → place < length sorts → s ≡ get_or sorts place Any → HasSort sorts (record { number = place + 1; sort = s })
 has_sort sorts place s within is = record {
@@ -77,17 +87,26 @@ head_parts old new args sorts head name are has =
       sorted = subst Q (sym has.is) (subst R (sym (append-nil (variables tree) ∙ variables_app name (trees_at old args))) are.sorted);
     }
 
--- one more body atom
-pub parts_more : (store : List (Tree Variable)) (head : ℕ) (atoms : List ℕ) (sorts : List Sort) (atom : ℕ) (name : List ℕ)
-    → AreParts store head atoms sorts → HasTree store atom (App name []) → AreParts store head (atoms ++ atom ∷ []) sorts
-parts_more store head atoms sorts atom name parts has =
-    let terms : List ℕ = head ∷ atoms in
+are_applications : (store : List (Tree Variable)) (term : ℕ) (name : List ℕ) (n : ℕ)
+    → HasTree store term (App name []) → All IsApplication (trees_at store (replicate n term))
+are_applications store term name zero has = All-nil IsApplication
+are_applications store term name (suc n) has =
+    let rest : List (Tree Variable) = trees_at store (replicate n term) in
+    let P : Tree Variable → Type 0 = λ t. All IsApplication (t ∷ rest) in
+    subst P (sym has.is) (All-cons IsApplication (App name []) rest (application_app name []) (are_applications store term name n has))
+
+-- so many body atoms
+pub parts_more : (store : List (Tree Variable)) (head : ℕ) (sorts : List Sort) (atom : ℕ) (name : List ℕ) (n : ℕ)
+    → AreParts store head [] sorts → HasTree store atom (App name []) → AreParts store head (replicate n atom) sorts
+parts_more store head sorts atom name n parts has =
+    let terms : List ℕ = replicate n atom in
     let trees : List (Tree Variable) = trees_at store terms in
-    let all = have_push store store terms trees atom (App name []) (record { within = parts.within; are = refl }) (keeps_refl store) has in
-    let more = sorted_constant store terms sorts atom name (record { within = parts.within; sorted = parts.sorted }) has in
+    let are : AreSorted store terms sorts = sorted_constants store sorts atom name n has in
     let P : List (Tree Variable) → Type 0 = All IsApplication in
+    let Q : List Variable → Type 0 = All (HasSort sorts) in
+    let of_head : List Variable = variables (tree_at store head) in
     record {
-      within = more.within;
-      applications = subst P (sym all.are) (All-push IsApplication trees (App name []) parts.applications (application_app name []));
-      sorted = more.sorted;
+      within = (parts.within.0, are.within);
+      applications = All-append IsApplication (tree_at store head ∷ []) trees parts.applications (are_applications store atom name n has);
+      sorted = All-append (HasSort sorts) of_head (variables_in trees) (subst Q (append-nil of_head) parts.sorted) are.sorted;
     }

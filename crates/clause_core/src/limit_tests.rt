@@ -12,17 +12,14 @@ use term_store::{Store, Term, TermFault};
 fn long_head(
     alloc: Global,
     store: &mut Store,
-    constants: u32,
+    constants: usize,
     sorts: &[Sort],
 ) -> Result<Term, TermFault>
     requires { length sorts.now < 2 ^ 32 }
     ensures { IfOk result (λ head. AreParts store.new head [] sorts.now) }
 {
     let constant = store.app("a", &[])?;
-    let mut args = Items::new(alloc);
-    for _turn in 0..constants {
-        args.push(constant)?;
-    }
+    let mut args = vec![in alloc; constant; constants]?;
     for (place, sort) in sorts.iter().enumerate() {
         let variable = store.var(place as u32 + 1, *sort)?;
         args.push(variable)?;
@@ -35,33 +32,28 @@ fn with_atoms(
     alloc: Global,
     store: &mut Store,
     head: Term,
-    count: u32,
+    count: usize,
     sorts: &[Sort],
 ) -> Result<RawClause, TermFault>
     requires { AreParts store.old head [] sorts.now }
     ensures { IfOk result (IsRaw store.new) }
 {
     let atom = store.app("q", &[])?;
-    let mut atoms = Items::new(alloc);
-    for _turn in 0..count {
-        atoms.push(atom)?;
-    }
+    let atoms = Items::from_vec(vec![in alloc; atom; count]?);
     let sorts = Items::from_slice(alloc, sorts)?;
     Ok(RawClause { head, atoms, sorts })
 }
 
 /// As many sorts, in turn `Any` and `Num`.
-fn sorts_in_turn(alloc: Global, count: usize) -> Result<Items<Sort>, AllocError> {
-    let mut sorts = Items::new(alloc);
-    for turn in 0..count {
-        sorts.push(if turn % 2 == 0 { Sort::Any } else { Sort::Num })?;
-    }
-    Ok(sorts)
+fn sorts_in_turn(alloc: Global, count: usize) -> Result<Vec<Sort>, AllocError> {
+    let mut in_turn = [Sort::Any, Sort::Num].repeat(alloc, count)?;
+    in_turn.truncate(count);
+    Ok(in_turn)
 }
 
 /// The numbers of constants and variables in the head and of body atoms, and the size of the clause or the limit that
 /// it is past. The depth of a stored term is at most 256, so that no clause is past that limit.
-static CASES: [(u32, usize, u32, Result<u32, Limit>); 9] = [
+static CASES: [(usize, usize, usize, Result<u32, Limit>); 9] = [
     (4095, 0, 0, Ok(4096)),
     (4094, 0, 1, Ok(4096)),
     (4095, 0, 1, Err(Limit::Shape)),

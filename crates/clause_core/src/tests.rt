@@ -9,7 +9,7 @@ use clp_model::Sort;
 use sqlite_items::Items;
 use std::alloc::Global;
 use std::test::Fail;
-use term_store::{Store, Term, TermFault};
+use term_store::{NoMemory, Store, Term, TermFault};
 
 /// An atom with two of the variables 1, 2 and 3.
 #[tactic(auto, using(term_store::proofs::Keeping::keeps_at, term_store::proofs::Keeping::keeps_within))]
@@ -41,27 +41,29 @@ fn clause(
     })
 }
 
-/// Whether copies of a clause are the same clause: in its own store, and in another one, where it is in canonical form
-/// already.
-#[tactic(auto, using(term_store::proofs::Keeping::keeps_within))]
-fn copies_are_same(alloc: Global, store: &Store, c: &Clause) -> Result<bool, ClauseFault>
-    requires { IsStored store.now c.now }
-{
+fn copy_is_same(alloc: Global, c: &Clause) -> Result<bool, NoMemory> {
     let copy = c.copy(alloc)?;
-    let mut second = Store::new(alloc);
-    let Clause { head, atoms, sorts } = copy_clause(alloc, &mut second, store, &copy)?;
-    let moved = RawClause { head, atoms, sorts };
-    let again = canonical(alloc, &mut second, &moved)?;
-    let as_large = clause_size(&second, &again) == clause_size(store, c);
-    let same_head = second.same(again.head, moved.head);
     Ok(
-        as_large
-            && same_head
-            && again.atoms.len() == c.atoms.len()
-            && again.sorts.as_slice() == c.sorts.as_slice()
-            && copy.head == c.head
+        copy.head == c.head
             && copy.atoms.as_slice() == c.atoms.as_slice()
             && copy.sorts.as_slice() == c.sorts.as_slice(),
+    )
+}
+
+/// Whether the copy of a clause in another store is the same clause: it is in canonical form already.
+#[tactic(auto, using(term_store::proofs::Keeping::keeps_within))]
+fn moved_is_same(alloc: Global, store: &Store, c: &Clause) -> Result<bool, ClauseFault>
+    requires { IsStored store.now c.now }
+{
+    let mut second = Store::new(alloc);
+    let Clause { head, atoms, sorts } = copy_clause(alloc, &mut second, store, c)?;
+    let moved = RawClause { head, atoms, sorts };
+    let again = canonical(alloc, &mut second, &moved)?;
+    Ok(
+        clause_size(&second, &again) == clause_size(store, c)
+            && second.same(again.head, moved.head)
+            && again.atoms.len() == c.atoms.len()
+            && again.sorts.as_slice() == c.sorts.as_slice(),
     )
 }
 
@@ -76,22 +78,30 @@ static CASES: [Case; 4] = [
     ((2, 2), (2, 2), (0, 0), (0, 0), 1),
 ];
 
-#[test]
+/// Whether the canonical form of a clause is the one that it must be, and its copies are the same.
 #[tactic(auto, using(crate::proofs::Kept::is_raw_kept))]
+fn has_form(alloc: Global, case: &Case) -> Result<bool, Fail> {
+    let (head, body, new_head, new_body, variables) = *case;
+    let mut store = Store::new(alloc);
+    let wanted = clause(alloc, &mut store, new_head, new_body)?;
+    let raw = clause(alloc, &mut store, head, body)?;
+    let c = canonical(alloc, &mut store, &raw)?;
+    Ok(
+        store.same(c.head, wanted.head)
+            && c.atoms.len() == 1
+            && wanted.atoms.len() == 1
+            && store.same(c.atoms.as_slice()[0], wanted.atoms.as_slice()[0])
+            && c.sorts.len() == variables
+            && clause_size(&store, &c) == 6
+            && copy_is_same(alloc, &c)?
+            && moved_is_same(alloc, &store, &c)?,
+    )
+}
+
+#[test]
 fn canonical_forms(rt: HostRuntime) -> Result<(), Fail> {
-    for case in CASES.iter() {
-        let (head, body, new_head, new_body, variables) = *case;
-        let mut store = Store::new(rt.alloc());
-        let wanted = clause(rt.alloc(), &mut store, new_head, new_body)?;
-        let raw = clause(rt.alloc(), &mut store, head, body)?;
-        let c = canonical(rt.alloc(), &mut store, &raw)?;
-        assert!(rt; store.same(c.head, wanted.head));
-        assert_eq!(rt; c.atoms.len(), 1);
-        assert_eq!(rt; wanted.atoms.len(), 1);
-        assert!(rt; store.same(c.atoms.as_slice()[0], wanted.atoms.as_slice()[0]));
-        assert_eq!(rt; c.sorts.len(), variables);
-        assert_eq!(rt; clause_size(&store, &c), 6);
-        assert!(rt; copies_are_same(rt.alloc(), &store, &c)?);
+    for (at, case) in CASES.iter().enumerate() {
+        assert!(rt; has_form(rt.alloc(), case)?, "case {at}");
     }
     Ok(())
 }

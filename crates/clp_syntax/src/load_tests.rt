@@ -8,13 +8,13 @@ use sqlite_items::Items;
 use std::alloc::{AllocError, Global};
 use std::test::Fail;
 
-fn with_atoms(alloc: Global, count: usize) -> Result<SourceClause, AllocError>
+/// A clause whose head is `h`, and whose atoms are these names.
+fn with_atoms(alloc: Global, names: &[&str]) -> Result<SourceClause, AllocError>
     ensures { IfOk result IsWellFormed }
 {
     let mut atoms = Items::new(alloc);
-    for _turn in 0..count {
-        let atom = Tree::App(Name::copy_of(alloc, "a")?, Items::new(alloc));
-        atoms.push(atom)?;
+    for name in names {
+        atoms.push(Tree::App(Name::copy_of(alloc, name)?, Items::new(alloc)))?;
     }
     Ok(SourceClause {
         head: Tree::App(Name::copy_of(alloc, "h")?, Items::new(alloc)),
@@ -27,7 +27,8 @@ fn with_atoms(alloc: Global, count: usize) -> Result<SourceClause, AllocError>
 fn loads_clauses(rt: HostRuntime) -> Result<(), Fail> {
     let cases = [(0, None, 1), (64, None, 2), (65, Some(Limit::Atoms), 0)];
     for (atoms, limit, predicates) in cases {
-        let source = [with_atoms(rt.alloc(), atoms)?];
+        let names = vec![in rt.alloc(); "a"; atoms]?;
+        let source = [with_atoms(rt.alloc(), names.as_slice())?];
         match load(rt.alloc(), &source) {
             Ok(loaded) => {
                 assert!(rt; limit.is_none());

@@ -334,7 +334,7 @@ const NO_STEP: Pieces = &[("map script 1.\n", 1)];
 
 const ONE_STEP: Pieces = &[("map script 1.\nmerge 1 at 1,2.\n", 1)];
 
-static LONG_TEXTS: [LongCase; 28] = [
+static LONG_WORDS: [LongCase; 10] = [
     // Names of 255 and 256 bytes, of a predicate and of a functor, and variables.
     (
         &[("n", 255), (" :- q, q.", 1)],
@@ -410,6 +410,9 @@ static LONG_TEXTS: [LongCase; 28] = [
         Status::BadScript,
         BAD_SCRIPT_LINE,
     ),
+];
+
+static DEEP_TERMS: [LongCase; 9] = [
     // With 255 brackets open at once a term is 256 deep and the clause loads. With 256 the program is in form, but the
     // term is 257 deep, which is past the limit of a clause. With 257 the program isn't in form.
     (
@@ -522,6 +525,9 @@ static LONG_TEXTS: [LongCase; 28] = [
         Status::Ok,
         &[("p(f(V1)", 1), (",f(V1)", 299), (") :- q.\n", 1)],
     ),
+];
+
+static LONG_LISTS: [LongCase; 9] = [
     // 64 and 65 atoms; the other limits of a clause are tested in `loads.rt`.
     (
         &[("p :- q", 1), (", q", 63), (".", 1)],
@@ -581,6 +587,11 @@ static LONG_TEXTS: [LongCase; 28] = [
     ),
 ];
 
+/// Whether a status and what was written are this answer.
+fn is_answer(found: &(Status, Vec<u8>), wanted: (Status, &str)) -> bool {
+    found.0 == wanted.0 && found.1.as_slice() == wanted.1.as_bytes()
+}
+
 /// Whether `map replay P S` on these files gives this answer.
 fn gives(
     alloc: Global,
@@ -588,9 +599,8 @@ fn gives(
     script: &[u8],
     wanted: (Status, &str),
 ) -> Result<bool, NoMemory> {
-    let (status, written) = answer(alloc, program, script)?;
-    let (wanted_status, text) = wanted;
-    Ok(status == wanted_status && written.as_slice() == text.as_bytes())
+    let found = answer(alloc, program, script)?;
+    Ok(is_answer(&found, wanted))
 }
 
 /// The place of the first case that has another answer, if there is one.
@@ -617,15 +627,27 @@ fn long_gives(alloc: Global, case: &LongCase) -> Result<bool, NoMemory> {
     )
 }
 
+/// The place of the first case in pieces that has another answer, if there is one.
+fn first_long_other(alloc: Global, cases: &[LongCase]) -> Result<Option<usize>, NoMemory> {
+    for (at, case) in cases.iter().enumerate() {
+        if !long_gives(alloc, case)? {
+            return Ok(Some(at));
+        }
+    }
+    Ok(None)
+}
+
 #[test]
 fn damaged_programs(rt: HostRuntime) -> Result<(), Fail> {
-    assert_eq!(rt; first_other(rt.alloc(), PROGRAMS.as_slice())?, None);
+    let other = first_other(rt.alloc(), PROGRAMS.as_slice())?;
+    assert!(rt; other.is_none(), "case {other:?}");
     Ok(())
 }
 
 #[test]
 fn damaged_scripts(rt: HostRuntime) -> Result<(), Fail> {
-    assert_eq!(rt; first_other(rt.alloc(), SCRIPTS.as_slice())?, None);
+    let other = first_other(rt.alloc(), SCRIPTS.as_slice())?;
+    assert!(rt; other.is_none(), "case {other:?}");
     Ok(())
 }
 
@@ -638,9 +660,22 @@ fn texts_that_are_not_utf8(rt: HostRuntime) -> Result<(), Fail> {
 }
 
 #[test]
-fn long_texts(rt: HostRuntime) -> Result<(), Fail> {
-    for (at, case) in LONG_TEXTS.iter().enumerate() {
-        assert!(rt; long_gives(rt.alloc(), case)?, "case {at}");
-    }
+fn long_words(rt: HostRuntime) -> Result<(), Fail> {
+    let other = first_long_other(rt.alloc(), LONG_WORDS.as_slice())?;
+    assert!(rt; other.is_none(), "case {other:?}");
+    Ok(())
+}
+
+#[test]
+fn deep_terms(rt: HostRuntime) -> Result<(), Fail> {
+    let other = first_long_other(rt.alloc(), DEEP_TERMS.as_slice())?;
+    assert!(rt; other.is_none(), "case {other:?}");
+    Ok(())
+}
+
+#[test]
+fn long_lists(rt: HostRuntime) -> Result<(), Fail> {
+    let other = first_long_other(rt.alloc(), LONG_LISTS.as_slice())?;
+    assert!(rt; other.is_none(), "case {other:?}");
     Ok(())
 }

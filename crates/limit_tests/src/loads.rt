@@ -1,3 +1,6 @@
+ghost use Rattle.std.specs.Prelude.{◌<◌, ◌^◌, length};
+
+use crate::answers::whole;
 use clause_core::Limit;
 use clp_syntax::{LoadFault, TextError, load, read_program};
 use std::alloc::{AllocError, Global};
@@ -7,13 +10,17 @@ use std::test::Fail;
 /// words.
 fn clause_text(alloc: Global, parts: [&str; 5], times: usize) -> Result<String, AllocError> {
     let [first, opening, between, closing, last] = parts;
-    let mut text = String::from_str(alloc, first)?;
-    text.push_str(opening.repeat(alloc, times)?.as_str())?;
-    text.push_str(between)?;
-    text.push_str(closing.repeat(alloc, times)?.as_str())?;
-    text.push_str(last)?;
-    text.push_str("\n")?;
-    Ok(text)
+    whole(
+        alloc,
+        &[
+            (first, 1),
+            (opening, times),
+            (between, 1),
+            (closing, times),
+            (last, 1),
+            ("\n", 1),
+        ],
+    )
 }
 
 /// The number of clauses, the parts of each, and the predicates or the limit that is past.
@@ -64,23 +71,32 @@ static CASES: [Case; 16] = [
     (2049, ["p(X", ",X", ").", "", ""], 4094, Err(Limit::Nodes)),
 ];
 
+/// So many clauses.
+fn clauses_text(alloc: Global, case: &Case) -> Result<String, AllocError> {
+    let (count, parts, times, _) = *case;
+    let clause = clause_text(alloc, parts, times)?;
+    clause.as_str().repeat(alloc, count)
+}
+
+/// Whether a text loads as so many clauses with so many predicates, or is past this limit.
+fn loads_so(alloc: Global, text: &[u8], case: &Case) -> Result<bool, TextError>
+    requires { length text.now < 2 ^ 32 }
+{
+    let (count, _, _, wanted) = *case;
+    let source = read_program(alloc, text)?;
+    match load(alloc, source.as_slice()) {
+        Ok(loaded) => Ok(loaded.clauses.len() == count && wanted == Ok(loaded.preds.len())),
+        Err(LoadFault::TooLarge(limit)) => Ok(wanted == Err(limit)),
+        Err(LoadFault::NoMemory) => Err(TextError::NoMemory),
+    }
+}
+
 #[test]
 fn loads_up_to_the_limits(rt: HostRuntime) -> Result<(), Fail> {
     for (at, case) in CASES.iter().enumerate() {
-        let (count, parts, times, wanted) = *case;
-        let clause = clause_text(rt.alloc(), parts, times)?;
-        let text = clause.as_str().repeat(rt.alloc(), count)?;
+        let text = clauses_text(rt.alloc(), case)?;
         assert!(rt; text.len() < 20_000_000);
-        let source = read_program(rt.alloc(), text.as_bytes())?;
-        let found = match load(rt.alloc(), source.as_slice()) {
-            Ok(loaded) => {
-                assert_eq!(rt; loaded.clauses.len(), count);
-                Ok(loaded.preds.len())
-            }
-            Err(LoadFault::TooLarge(limit)) => Err(limit),
-            Err(LoadFault::NoMemory) => return Err(AllocError.into()),
-        };
-        assert_eq!(rt; found, wanted, "case {at}");
+        assert!(rt; loads_so(rt.alloc(), text.as_bytes(), case)?, "case {at}");
     }
     Ok(())
 }
@@ -97,18 +113,24 @@ static TEXTS: [([&str; 5], usize, Option<usize>); 8] = [
     (["n", ". n", "", "", "."], 4096, None),
 ];
 
+/// Whether a text is a program of so many clauses, or is none.
+fn reads_so(alloc: Global, text: &[u8], wanted: Option<usize>) -> Result<bool, AllocError>
+    requires { length text.now < 2 ^ 32 }
+{
+    match read_program(alloc, text) {
+        Ok(source) => Ok(wanted == Some(source.len())),
+        Err(TextError::Fault) => Ok(wanted.is_none()),
+        Err(TextError::NoMemory) => Err(AllocError),
+    }
+}
+
 #[test]
 fn reads_up_to_the_limits(rt: HostRuntime) -> Result<(), Fail> {
     for (at, case) in TEXTS.iter().enumerate() {
         let (parts, times, wanted) = *case;
         let text = clause_text(rt.alloc(), parts, times)?;
         assert!(rt; text.len() < 20_000_000);
-        let found = match read_program(rt.alloc(), text.as_bytes()) {
-            Ok(source) => Some(source.len()),
-            Err(TextError::Fault) => None,
-            Err(TextError::NoMemory) => return Err(AllocError.into()),
-        };
-        assert_eq!(rt; found, wanted, "case {at}");
+        assert!(rt; reads_so(rt.alloc(), text.as_bytes(), wanted)?, "case {at}");
     }
     Ok(())
 }

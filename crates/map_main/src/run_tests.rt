@@ -46,33 +46,52 @@ fn call(
     })
 }
 
+/// Puts a file last.
+fn push_file(
+    alloc: Global,
+    files: &mut Vec<(String, Vec<u8>)>,
+    name: &str,
+    bytes: &[u8],
+) -> Result<(), AllocError> {
+    let name = String::from_str(alloc, name)?;
+    let bytes = Vec::from_slice(alloc, bytes)?;
+    files.push((name, bytes))?;
+    Ok(())
+}
+
 /// Files P and S, where they are there.
 fn files(
     alloc: Global,
-    program: Option<&str>,
-    script: Option<&str>,
+    program: Option<&[u8]>,
+    script: Option<&[u8]>,
 ) -> Result<Vec<(String, Vec<u8>)>, AllocError> {
     let mut files = Vec::new(alloc);
-    for (name, text) in [("P", program), ("S", script)] {
-        if let Some(text) = text {
-            let bytes = Vec::from_slice(alloc, text.as_bytes())?;
-            files.push((String::from_str(alloc, name)?, bytes))?;
-        }
+    if let Some(bytes) = program {
+        push_file(alloc, &mut files, "P", bytes)?;
+    }
+    if let Some(bytes) = script {
+        push_file(alloc, &mut files, "S", bytes)?;
     }
     Ok(files)
 }
 
 /// The text, and then white up to this length.
 fn padded(alloc: Global, text: &str, length: usize) -> Result<Vec<u8>, AllocError> {
+    let white = vec![in alloc; b' '; length.saturating_sub(text.len())]?;
     let mut bytes = Vec::from_slice(alloc, text.as_bytes())?;
-    for _ in bytes.len()..length {
-        bytes.push(b' ')?;
-    }
+    bytes.extend_from_slice(white.as_slice())?;
     Ok(bytes)
 }
 
+/// Whether a call has ended with this status, and this text was written.
+fn is_answer(outcome: &Outcome, status: Status, written: &str) -> bool {
+    outcome.status == status && outcome.written.as_slice() == written.as_bytes()
+}
+
 /// Words between spaces, and the status and text that they must have where P and S are good.
-static CALLS: [(&str, Status, &str); 15] = [
+type Call = (&'static str, Status, &'static str);
+
+static CALLS: [Call; 15] = [
     ("map replay P S", Status::Ok, OUTPUT),
     ("/bin/map replay P S", Status::Ok, OUTPUT),
     (" replay P S", Status::Ok, OUTPUT),
@@ -90,27 +109,37 @@ static CALLS: [(&str, Status, &str); 15] = [
     ("map replay S S", Status::BadProgram, "bad program\n"),
 ];
 
+fn is_answered(alloc: Global, wanted: &Call) -> Result<bool, AllocError> {
+    let (words, status, written) = *wanted;
+    let files = files(alloc, Some(PROGRAM.as_bytes()), Some(SCRIPT.as_bytes()))?;
+    let outcome = call(alloc, words, files, 0, 1, 0)?;
+    Ok(is_answer(&outcome, status, written))
+}
+
 #[test]
 fn words_of_calls(rt: HostRuntime) -> Result<(), AllocError> {
-    for (words, status, written) in CALLS.iter() {
-        let files = files(rt.alloc(), Some(PROGRAM), Some(SCRIPT))?;
-        let outcome = call(rt.alloc(), words, files, 0, 1, 0)?;
-        assert_eq!(rt; outcome.status, *status, "{words}");
-        assert!(rt; outcome.written.as_slice() == written.as_bytes(), "{words}");
+    for wanted in CALLS.iter() {
+        let (words, _, _) = *wanted;
+        assert!(rt; is_answered(rt.alloc(), wanted)?, "{words}");
     }
     Ok(())
 }
 
+/// Whether a call without any word writes the usage, loads no file and reads nothing.
+fn asks_for_words(alloc: Global) -> bool {
+    let mut shelf = MemShelf::new(Vec::new(alloc), Vec::new(alloc));
+    let mut input = MemSource::new(Vec::new(alloc), 1, Vec::new(alloc));
+    let mut out = MemSink::new(Vec::new(alloc), 9, Vec::new(alloc));
+    let status = map_run(alloc, &Words::new(alloc), &mut shelf, &mut input, &mut out);
+    status == Status::Usage
+        && out.taken.as_slice() == USAGE.as_bytes()
+        && shelf.calls == 0
+        && input.calls == 0
+}
+
 #[test]
 fn no_words(rt: HostRuntime) -> Result<(), AllocError> {
-    let mut shelf = MemShelf::new(Vec::new(rt.alloc()), Vec::new(rt.alloc()));
-    let mut input = MemSource::new(Vec::new(rt.alloc()), 1, Vec::new(rt.alloc()));
-    let mut out = MemSink::new(Vec::new(rt.alloc()), 9, Vec::new(rt.alloc()));
-    let words = Words::new(rt.alloc());
-    let status = map_run(rt.alloc(), &words, &mut shelf, &mut input, &mut out);
-    assert_eq!(rt; status, Status::Usage);
-    assert!(rt; out.taken.as_slice() == USAGE.as_bytes());
-    assert!(rt; shelf.calls == 0 && input.calls == 0);
+    assert!(rt; asks_for_words(rt.alloc()));
     Ok(())
 }
 
@@ -382,31 +411,25 @@ static CASES: [Case; 39] = [
     (Some(PROGRAM), None, 0, 1, Status::ShelfFault, "S", ""),
 ];
 
+fn ends_so(alloc: Global, case: &Case) -> Result<bool, AllocError> {
+    let (program, script, load_fails, write_fails, status, failed, written) = *case;
+    let files = files(alloc, program.map(str::as_bytes), script.map(str::as_bytes))?;
+    let outcome = call(alloc, "map replay P S", files, load_fails, 4, write_fails)?;
+    Ok(is_answer(&outcome, status, written) && outcome.failed.as_str() == failed)
+}
+
 #[test]
 fn files_and_faults(rt: HostRuntime) -> Result<(), AllocError> {
     for (at, case) in CASES.iter().enumerate() {
-        let (program, script, load_fails, write_fails, status, failed, written) = *case;
-        let files = files(rt.alloc(), program, script)?;
-        let outcome = call(
-            rt.alloc(),
-            "map replay P S",
-            files,
-            load_fails,
-            4,
-            write_fails,
-        )?;
-        assert_eq!(rt; outcome.status, status, "case {at}");
-        assert!(rt; outcome.failed.as_str() == failed, "case {at}");
-        assert!(rt;
-            outcome.written.as_slice() == written.as_bytes(),
-            "case {at}"
-        );
+        assert!(rt; ends_so(rt.alloc(), case)?, "case {at}");
     }
     Ok(())
 }
 
 /// Lengths of P and of S, each filled up with white, 0 where there is no S; and the answer.
-const LENGTHS: [(usize, usize, Status, &str); 5] = [
+type LongCase = (usize, usize, Status, &'static str);
+
+static LENGTHS: [LongCase; 5] = [
     (1_048_576, 16_777_216, Status::Ok, OUTPUT),
     (1_048_577, 99, Status::BadProgram, "bad program\n"),
     (1_048_577, 16_777_217, Status::BadProgram, "bad program\n"),
@@ -414,19 +437,32 @@ const LENGTHS: [(usize, usize, Status, &str); 5] = [
     (99, 16_777_217, Status::BadScript, "bad script\n"),
 ];
 
+/// Files P and S of these lengths.
+fn padded_files(
+    alloc: Global,
+    program: usize,
+    script: usize,
+) -> Result<Vec<(String, Vec<u8>)>, AllocError> {
+    let program = padded(alloc, PROGRAM, program)?;
+    if script == 0 {
+        return files(alloc, Some(program.as_slice()), None);
+    }
+    let script = padded(alloc, SCRIPT, script)?;
+    files(alloc, Some(program.as_slice()), Some(script.as_slice()))
+}
+
+fn long_ends_so(alloc: Global, case: &LongCase) -> Result<bool, AllocError> {
+    let (program, script, status, written) = *case;
+    let files = padded_files(alloc, program, script)?;
+    let outcome = call(alloc, "map replay P S", files, 0, 4096, 0)?;
+    Ok(is_answer(&outcome, status, written))
+}
+
 #[test]
 fn long_files(rt: HostRuntime) -> Result<(), AllocError> {
-    for (program, script, status, written) in LENGTHS {
-        let program = padded(rt.alloc(), PROGRAM, program)?;
-        let script = padded(rt.alloc(), if script == 0 { "" } else { SCRIPT }, script)?;
-        let mut files = Vec::new(rt.alloc());
-        files.push((String::from_str(rt.alloc(), "P")?, program))?;
-        if !script.is_empty() {
-            files.push((String::from_str(rt.alloc(), "S")?, script))?;
-        }
-        let outcome = call(rt.alloc(), "map replay P S", files, 0, 4096, 0)?;
-        assert_eq!(rt; outcome.status, status);
-        assert!(rt; outcome.written.as_slice() == written.as_bytes());
+    for case in LENGTHS.iter() {
+        let (program, script, _, _) = *case;
+        assert!(rt; long_ends_so(rt.alloc(), case)?, "{program} {script}");
     }
     Ok(())
 }

@@ -22,22 +22,35 @@ fn read_on<I: Source>(source: &mut I, buf: &mut [u8]) -> Result<usize, SourceFau
     source.read(buf)
 }
 
+/// The name of a file, the most bytes that are taken of it, the answer, and the bytes that are given.
+type Load = (
+    &'static str,
+    usize,
+    Result<Loading, ShelfFault>,
+    &'static [u8],
+);
+
+fn loads_so<S: Shelf>(alloc: Global, shelf: &mut S, wanted: &Load) -> bool {
+    let (name, most, answer, bytes) = *wanted;
+    let mut into = Vec::new(alloc);
+    shelf.load(name, &mut into, most) == answer && into.as_slice() == bytes
+}
+
+static LOADS: [Load; 5] = [
+    ("p", 3, Ok(Loading::Whole), b"one"),
+    ("p", 2, Ok(Loading::TooLong), b""),
+    ("p", 3, Err(ShelfFault::Failed), b""),
+    ("absent", 3, Err(ShelfFault::Failed), b""),
+    ("p", 9, Ok(Loading::Whole), b"one"),
+];
+
 #[test]
 fn shelf_in_memory(rt: HostRuntime) -> Result<(), AllocError> {
     let alloc = rt.alloc();
     let files = vec![in alloc; file(alloc, "p", b"one")?, file(alloc, "p", b"two")?]?;
     let mut shelf = MemShelf::new(files, vec![in alloc; 3]?);
-    let loads = [
-        ("p", 3, Ok(Loading::Whole), b"one".as_slice()),
-        ("p", 2, Ok(Loading::TooLong), b"".as_slice()),
-        ("p", 3, Err(ShelfFault::Failed), b"".as_slice()),
-        ("absent", 3, Err(ShelfFault::Failed), b"".as_slice()),
-        ("p", 9, Ok(Loading::Whole), b"one".as_slice()),
-    ];
-    for (name, most, answer, bytes) in loads {
-        let mut into = Vec::new(alloc);
-        assert!(rt; shelf.load(name, &mut into, most) == answer);
-        assert!(rt; into.as_slice() == bytes);
+    for wanted in LOADS.iter() {
+        assert!(rt; loads_so(alloc, &mut shelf, wanted));
     }
     assert!(rt; shelf.faults == 2 && shelf.failed.as_str() == "absent");
     Ok(())
@@ -53,55 +66,68 @@ fn sink_in_memory(rt: HostRuntime) -> Result<(), AllocError> {
     Ok(())
 }
 
+/// The answer of a read, and the buffer after it.
+type Reading = (Result<usize, SourceFault>, &'static [u8]);
+
+/// Whether the source has not told its end, and a read of it goes so.
+fn reads_so(source: &mut MemSource, wanted: &Reading) -> bool {
+    if source.ended {
+        return false;
+    }
+    let (answer, bytes) = *wanted;
+    let mut buf = [0u8; 4];
+    source.read(&mut buf) == answer && buf.as_slice() == bytes
+}
+
+static READS: [Reading; 5] = [
+    (Ok(2), b"ab\0\0"),
+    (Err(SourceFault::Failed), b"\0\0\0\0"),
+    (Ok(2), b"cd\0\0"),
+    (Ok(1), b"e\0\0\0"),
+    (Ok(0), b"\0\0\0\0"),
+];
+
 #[test]
 fn source_in_memory(rt: HostRuntime) -> Result<(), AllocError> {
     let alloc = rt.alloc();
     let mut source = MemSource::new(Vec::from_slice(alloc, b"abcde")?, 2, vec![in alloc; 2]?);
-    let mut buf = [0u8; 4];
-    assert!(rt; read_on(&mut source, &mut buf) == Ok(2));
-    assert!(rt; buf[1] == b'b');
-    let reads = [
-        (Err(SourceFault::Failed), 0),
-        (Ok(2), b'c'),
-        (Ok(1), b'e'),
-        (Ok(0), 0),
-    ];
-    for (answer, first) in reads {
-        let mut buf = [0u8; 4];
-        assert!(rt; !source.ended);
-        assert!(rt; source.read(&mut buf) == answer);
-        assert!(rt; buf[0] == first);
+    for wanted in READS.iter() {
+        assert!(rt; reads_so(&mut source, wanted));
     }
     assert!(rt; source.ended && source.faults == 1);
     Ok(())
 }
 
-#[test]
-fn real_things(rt: HostRuntime) -> Result<(), AllocError> {
-    let alloc = rt.alloc();
-    let mut words = Words::new(alloc);
-    for name in ["/dev/null", "/dev/zero", "no such file"] {
-        assert!(rt; words.push(name).is_ok());
-    }
-    let answers = [
-        Ok(Loading::Whole),
-        Ok(Loading::TooLong),
-        Err(ShelfFault::Failed),
-    ];
-    let mut shelf = FileShelf::new(&rt);
-    for (at, answer) in answers.into_iter().enumerate() {
-        let mut into = Vec::new(alloc);
-        let name = words.get(at).unwrap_or("");
-        assert!(rt; shelf.load(name, &mut into, 5) == answer);
-        assert!(rt; into.is_empty());
-    }
-    assert!(rt; words.len() == 3);
+static REAL_LOADS: [Load; 3] = [
+    ("/dev/null", 5, Ok(Loading::Whole), b""),
+    ("/dev/zero", 5, Ok(Loading::TooLong), b""),
+    ("no such file", 5, Err(ShelfFault::Failed), b""),
+];
 
-    let mut out = OutputSink::new(Vec::new(alloc));
+#[test]
+fn shelf_of_files(rt: HostRuntime) -> Result<(), AllocError> {
+    let mut shelf = FileShelf::new(&rt);
+    for wanted in REAL_LOADS.iter() {
+        assert!(rt; loads_so(rt.alloc(), &mut shelf, wanted));
+    }
+    Ok(())
+}
+
+#[test]
+fn writer_and_reader(rt: HostRuntime) -> Result<(), AllocError> {
+    let mut out = OutputSink::new(Vec::new(rt.alloc()));
     assert!(rt; put(&mut out, b"hello") == Ok(()));
     let mut input = InputSource::new(b"x".as_slice());
     let mut buf = [0u8; 4];
     assert!(rt; read_on(&mut input, &mut buf) == Ok(1));
     assert!(rt; buf[0] == b'x');
+    Ok(())
+}
+
+#[test]
+fn words_in_order(rt: HostRuntime) -> Result<(), AllocError> {
+    let mut words = Words::new(rt.alloc());
+    assert!(rt; words.push("map").is_ok() && words.push("").is_ok());
+    assert!(rt; words.get(0) == Some("map") && words.get(1) == Some("") && words.len() == 2);
     Ok(())
 }

@@ -13,29 +13,38 @@ use std::alloc::Global;
 use std::test::Fail;
 use term_store::{NoMemory, Store};
 
-/// The program written after a script, or what the script was refused by and the program then.
-fn answer(alloc: Global, program: &[u8], script: &[u8]) -> Result<String, NoMemory>
-    requires program { length program.now < 2 ^ 32 }
-    requires script { length script.now < 2 ^ 32 }
+/// Appends the program written after a script, or what the script was refused by and the program then.
+fn append_run(
+    alloc: Global,
+    state: &mut State,
+    script: &[u8],
+    text: &mut String,
+) -> Result<(), NoMemory>
+    requires { length script.now < 2 ^ 32 }
 {
-    let mut text = String::new(alloc);
-    let mut state = match open_program(alloc, program) {
-        Ok(state) => state,
-        Err(ReplayFault::NoMemory) => return Err(NoMemory),
-        Err(_) => {
-            text.push_str("bad program")?;
-            return Ok(text);
-        }
-    };
-    match run_script(alloc, &mut state, script) {
-        Ok(()) => print_program(alloc, &state, &mut text)?,
-        Err(ReplayFault::NoMemory) => return Err(NoMemory),
+    match run_script(alloc, state, script) {
+        Ok(()) => print_program(alloc, state, text),
+        Err(ReplayFault::NoMemory) => Err(NoMemory),
         Err(ReplayFault::Refused(_, refusal)) => {
-            refusal_text(alloc, &refusal, &mut text)?;
+            refusal_text(alloc, &refusal, text)?;
             text.push_str(" after\n")?;
-            print_program(alloc, &state, &mut text)?;
+            print_program(alloc, state, text)
         }
-        Err(_) => text.push_str("bad script")?,
+        Err(_) => Ok(text.push_str("bad script")?),
+    }
+}
+
+fn answer(alloc: Global, program: &[u8], steps: &str) -> Result<String, NoMemory>
+    requires program { length program.now < 2 ^ 32 }
+    requires steps { length steps.now < 4096 }
+{
+    let mut script = String::from_str(alloc, "map script 1.\n")?;
+    script.push_str(steps)?;
+    let mut text = String::new(alloc);
+    match open_program(alloc, program) {
+        Ok(mut state) => append_run(alloc, &mut state, script.as_bytes(), &mut text)?,
+        Err(ReplayFault::NoMemory) => return Err(NoMemory),
+        Err(_) => text.push_str("bad program")?,
     }
     Ok(text)
 }
@@ -127,54 +136,89 @@ static ANSWERS: [(&str, &str, &str); 19] = [
 #[test]
 fn answers(rt: HostRuntime) -> Result<(), Fail> {
     for (program, steps, expected) in ANSWERS.iter() {
-        let mut script = String::from_str(rt.alloc(), "map script 1.\n")?;
-        script.push_str(steps)?;
         assert!(rt; program.len() < 4096);
-        assert!(rt; script.len() < 4096);
-        let found = answer(rt.alloc(), program.as_bytes(), script.as_bytes())?;
+        assert!(rt; steps.len() < 4096);
+        let found = answer(rt.alloc(), program.as_bytes(), steps)?;
         assert_eq!(rt; found.as_str(), *expected, "{program} {steps}");
     }
     Ok(())
 }
 
+/// The steps, the nodes, the next id, the live ids and the number of initial predicates.
+type Seen = (u32, u32, u32, &'static [u32], usize);
+
+fn is_so(state: &State, wanted: &Seen) -> Result<bool, NoMemory> {
+    let (steps, nodes, next_id, live, initials) = *wanted;
+    let ids = state.live_ids()?;
+    Ok(
+        (state.steps(), state.nodes(), state.next_id()) == (steps, nodes, next_id)
+            && ids.as_slice() == live
+            && state.initials().len() == initials,
+    )
+}
+
+fn merge_in(id: u32) -> Step {
+    Step::Merge {
+        id,
+        first: 1,
+        second: 2,
+    }
+}
+
 /// The id of an entry, whether it is live, its mark, and the number of the step that made it.
-static ENTRIES: [(u32, bool, bool, u32); 3] = [
-    (1, false, true, 0),
-    (2, true, true, 0),
-    (3, true, true, 1),
-];
+type Told = (u32, bool, bool, u32);
+
+static ENTRIES: [Told; 3] = [(1, false, true, 0), (2, true, true, 0), (3, true, true, 1)];
+
+fn has_entry(state: &State, wanted: &Told) -> bool {
+    let (id, live, mark, made_at) = *wanted;
+    match state.fetch(id) {
+        Some(entry) => (entry.live, entry.mark, entry.made_at) == (live, mark, made_at),
+        None => false,
+    }
+}
+
+/// Whether `q` with so many arguments is initial.
+fn has_initial(state: &State, arity: u32) -> Result<bool, NoMemory> {
+    let name = Name::copy_of(state.alloc(), "q")?;
+    Ok(state.is_initial(&Pred { name, arity }))
+}
+
+/// Whether a merge has this outcome, and the state is so after it.
+fn merges(
+    state: &mut State,
+    outcome: Result<Step, Refusal>,
+    wanted: &Seen,
+) -> Result<bool, NoMemory> {
+    Ok(apply(state, &merge_in(1)) == outcome && is_so(state, wanted)?)
+}
+
+/// The state after the merge.
+static MERGED: Seen = (1, 11, 4, &[2, 3], 3);
+
+fn has_entries(state: &State) -> bool {
+    for wanted in ENTRIES.iter() {
+        if !has_entry(state, wanted) {
+            return false;
+        }
+    }
+    state.fetch(4).is_none()
+}
+
+/// Whether the state tells what it should after the merge, and after a refusal the same.
+fn tells(state: &mut State) -> Result<bool, NoMemory> {
+    let merged = merges(state, Ok(merge_in(1)), &MERGED)?;
+    let refused = merges(state, Err(Refusal::NoClause(1)), &MERGED)?;
+    let initials = has_initial(state, 1)? && !has_initial(state, 2)?;
+    Ok(merged && refused && initials && has_entries(state))
+}
 
 #[test]
 fn tells_the_state(rt: HostRuntime) -> Result<(), Fail> {
-    let alloc = rt.alloc();
     let program = "p(X) :- q(X), q(X). r.";
     assert!(rt; program.len() < 4096);
-    let mut state = open_program(alloc, program.as_bytes())?;
-    let merge = Step::Merge {
-        id: 1,
-        first: 1,
-        second: 2,
-    };
-    // The step, and then its refusal, after which all is as before.
-    for outcome in [Ok(merge), Err(Refusal::NoClause(1))] {
-        assert_eq!(rt; apply(&mut state, &merge), outcome);
-        assert_eq!(rt; (state.steps(), state.nodes(), state.next_id()), (1, 11, 4));
-        assert_eq!(rt; state.live_ids()?.as_slice(), [2, 3].as_slice());
-    }
-    for known in ENTRIES.iter() {
-        let (id, live, mark, made_at) = *known;
-        let entry = state.fetch(id).ok_or("no entry")?;
-        assert_eq!(rt;
-            (entry.live, entry.mark, entry.made_at),
-            (live, mark, made_at)
-        );
-    }
-    assert!(rt; state.fetch(4).is_none());
-    assert_eq!(rt; state.initials().len(), 3);
-    for (arity, initial) in [(1, true), (2, false)] {
-        let name = Name::copy_of(alloc, "q")?;
-        assert_eq!(rt; state.is_initial(&Pred { name, arity }), initial);
-    }
+    let mut state = open_program(rt.alloc(), program.as_bytes())?;
+    assert!(rt; tells(&mut state)?);
     Ok(())
 }
 
@@ -196,17 +240,24 @@ fn loaded(alloc: Global, program: &[u8]) -> Result<Loaded, ReplayFault>
     }
 }
 
-/// The steps, the nodes, the next id, the live ids and the number of initial predicates.
-type Seen = (u32, u32, u32, &'static [u32], usize);
+/// The start state of a program.
+fn started(alloc: Global, program: &[u8]) -> Result<State, ReplayFault>
+    requires { length program.now < 2 ^ 32 }
+    ensures { IfOk result (λ s. length (state_of s).steps < 100000) }
+{
+    start(alloc, loaded(alloc, program)?).or(Err(ReplayFault::NoMemory))
+}
 
-fn is_so(state: &State, wanted: &Seen) -> Result<bool, NoMemory> {
-    let (steps, nodes, next_id, live, initials) = *wanted;
-    let ids = state.live_ids()?;
-    Ok(
-        (state.steps(), state.nodes(), state.next_id()) == (steps, nodes, next_id)
-            && ids.as_slice() == live
-            && state.initials().len() == initials,
-    )
+/// The same, from the parts of the loaded program.
+fn begun(alloc: Global, program: &[u8]) -> Result<State, ReplayFault>
+    requires { length program.now < 2 ^ 32 }
+{
+    let Loaded {
+        store,
+        clauses,
+        preds,
+    } = loaded(alloc, program)?;
+    State::begin(alloc, store, clauses, preds).or(Err(ReplayFault::NoMemory))
 }
 
 /// A program, and its start state.
@@ -217,19 +268,22 @@ static STARTS: [(&str, Seen); 4] = [
     ("p(f(X),X). p :- p(a,b), p. p.", (0, 10, 4, &[1, 2, 3], 2)),
 ];
 
+fn both_begin(alloc: Global, program: &[u8], wanted: &Seen) -> Result<bool, ReplayFault>
+    requires { length program.now < 2 ^ 32 }
+{
+    let one = started(alloc, program)?;
+    let other = begun(alloc, program)?;
+    Ok(is_so(&one, wanted).unwrap_or(false) && is_so(&other, wanted).unwrap_or(false))
+}
+
 #[test]
 fn states_begin(rt: HostRuntime) -> Result<(), Fail> {
     for (program, wanted) in STARTS.iter() {
         assert!(rt; program.len() < 4096);
-        let state = start(rt.alloc(), loaded(rt.alloc(), program.as_bytes())?)?;
-        assert!(rt; is_so(&state, wanted)?, "{program}");
-        let Loaded {
-            store,
-            clauses,
-            preds,
-        } = loaded(rt.alloc(), program.as_bytes())?;
-        let state = State::begin(rt.alloc(), store, clauses, preds)?;
-        assert!(rt; is_so(&state, wanted)?, "{program}");
+        assert!(rt;
+            both_begin(rt.alloc(), program.as_bytes(), wanted)?,
+            "{program}"
+        );
     }
     Ok(())
 }
@@ -258,33 +312,41 @@ fn copied(state: &State, id: u32) -> Result<Change, Refusal>
     Ok(change)
 }
 
-fn merge_in(id: u32) -> Step {
-    Step::Merge {
-        id,
-        first: 1,
-        second: 2,
-    }
-}
-
 /// The state before a change, also once it is reserved, and after it.
 static RESERVED: [Seen; 2] = [(0, 7, 3, &[1, 2], 3), (1, 13, 4, &[2, 3], 3)];
 
+/// Whether a change within the limits is seen after its commit, and not before.
+fn is_seen_once_committed(state: &mut State, change: Change) -> Result<bool, NoMemory>
+    requires { IsChange (state_of state.old) change }
+{
+    let [before, after] = &RESERVED;
+    if state.limit_past(&change).is_some() {
+        return Ok(false);
+    }
+    let ready = state.reserve(change)?;
+    let unseen = is_so(state, before)?;
+    state.commit(ready);
+    Ok(unseen && is_so(state, after)?)
+}
+
+/// Whether the last step and the clause that it made are those of the change.
+fn has_copy(state: &State) -> bool {
+    match state.fetch(3) {
+        Some(entry) => has_entry(state, &(3, true, false, 1))
+            && entry.parents.as_slice() == [1].as_slice()
+            && state.history() == [merge_in(1)].as_slice(),
+        None => false,
+    }
+}
+
 #[test]
 fn reserves_a_change(rt: HostRuntime) -> Result<(), Fail> {
-    let [before, after] = &RESERVED;
     let program = "p(X) :- q(X), q(X). r.";
     assert!(rt; program.len() < 4096);
-    let mut state = start(rt.alloc(), loaded(rt.alloc(), program.as_bytes())?)?;
+    let mut state = started(rt.alloc(), program.as_bytes())?;
     let change = copied(&state, 1)?;
-    assert!(rt; state.limit_past(&change).is_none());
-    let ready = state.reserve(change)?;
-    assert!(rt; is_so(&state, before)?);
-    state.commit(ready);
-    assert!(rt; is_so(&state, after)?);
-    assert_eq!(rt; state.history(), [merge_in(1)].as_slice());
-    let entry = state.fetch(3).ok_or("no entry")?;
-    assert!(rt; entry.live && !entry.mark && entry.made_at == 1);
-    assert_eq!(rt; entry.parents.as_slice(), [1].as_slice());
+    assert!(rt; is_seen_once_committed(&mut state, change)?);
+    assert!(rt; has_copy(&state));
     Ok(())
 }
 
@@ -363,18 +425,27 @@ static REPLAYS: [(&str, &str, Result<&str, ReplayFault>); 6] = [
     ("p.", "map script 2.", Err(ReplayFault::Script)),
 ];
 
+fn replayed(alloc: Global, program: &[u8], script: &[u8]) -> Result<String, ReplayFault>
+    requires program { length program.now < 2 ^ 32 }
+    requires script { length script.now < 2 ^ 32 }
+{
+    let state = replay(alloc, program, script)?;
+    let mut text = String::new(alloc);
+    match print_program(alloc, &state, &mut text) {
+        Ok(()) => Ok(text),
+        Err(NoMemory) => Err(ReplayFault::NoMemory),
+    }
+}
+
 #[test]
 fn replays_from_texts(rt: HostRuntime) -> Result<(), Fail> {
     for (program, script, wanted) in REPLAYS.iter() {
         assert!(rt; program.len() < 4096);
         assert!(rt; script.len() < 4096);
-        let mut text = String::new(rt.alloc());
-        let found = match replay(rt.alloc(), program.as_bytes(), script.as_bytes()) {
-            Ok(state) => {
-                print_program(rt.alloc(), &state, &mut text)?;
-                Ok(text.as_str())
-            }
-            Err(fault) => Err(fault),
+        let found = replayed(rt.alloc(), program.as_bytes(), script.as_bytes());
+        let found = match &found {
+            Ok(text) => Ok(text.as_str()),
+            Err(fault) => Err(*fault),
         };
         assert!(rt; found == *wanted, "{program} {script}");
     }

@@ -57,17 +57,31 @@ fn are_so(store: &Store, terms: &[Term], wanted: &[(Kind, u32, u32)]) -> bool
     }
 }
 
+/// Whether copies in a store that has a term already are so.
+fn copies_are_so(alloc: Global, from: &Store, terms: &[Term]) -> Result<bool, TermFault>
+    requires { AreIn from.now terms.now }
+{
+    let mut store = Store::new(alloc);
+    let _constant = store.app("a", &[])?;
+    let copies = store.copy_all(from, terms)?;
+    Ok(are_so(&store, copies.as_slice(), SAMPLE.as_slice()))
+}
+
+/// Whether the copy of a constant from another store is so.
+fn takes_a_constant(alloc: Global, store: &mut Store) -> Result<bool, TermFault> {
+    let mut other = Store::new(alloc);
+    let constant = other.app("a", &[])?;
+    let copy = store.copy(&other, constant)?;
+    Ok(is_so(store, copy, &(Kind::App("a", 0), 1, 1)))
+}
+
 #[test]
 fn terms_and_copies(rt: HostRuntime) -> Result<(), Fail> {
-    let mut first = Store::new(rt.alloc());
-    let terms = sample(rt.alloc(), &mut first)?;
-    assert!(rt; are_so(&first, terms.as_slice(), SAMPLE.as_slice()));
-    let mut second = Store::new(rt.alloc());
-    let constant = second.app("a", &[])?;
-    let copies = second.copy_all(&first, terms.as_slice())?;
-    assert!(rt; are_so(&second, copies.as_slice(), SAMPLE.as_slice()));
-    let copy = first.copy(&second, constant)?;
-    assert!(rt; is_so(&first, copy, &(Kind::App("a", 0), 1, 1)));
+    let mut store = Store::new(rt.alloc());
+    let terms = sample(rt.alloc(), &mut store)?;
+    assert!(rt; are_so(&store, terms.as_slice(), SAMPLE.as_slice()));
+    assert!(rt; copies_are_so(rt.alloc(), &store, terms.as_slice())?);
+    assert!(rt; takes_a_constant(rt.alloc(), &mut store)?);
     Ok(())
 }
 
@@ -101,17 +115,27 @@ static SECOND: [(&str, bool, bool); 3] = [
     ("g", true, false),
 ];
 
+/// Whether exactly the terms of one tree are the same, where this says of `g(12,1)` and the second term.
+#[tactic(auto, using(crate::proofs::Keeping::keeps_within))]
+fn compares(alloc: Global, name: &str, swapped: bool, same: bool) -> Result<bool, TermFault> {
+    let mut store = Store::new(alloc);
+    let x = store.var(1, Sort::Any)?;
+    let y = store.var(12, Sort::Num)?;
+    let one = store.app("g", &[y, x])?;
+    let args = if swapped { [x, y] } else { [y, x] };
+    let other = store.app(name, &args)?;
+    Ok(
+        store.same(one, other) == same
+            && store.same(one, one)
+            && !store.same(x, y)
+            && !store.same(x, one),
+    )
+}
+
 #[test]
 fn equal_terms(rt: HostRuntime) -> Result<(), Fail> {
     for (name, swapped, same) in SECOND.iter() {
-        let mut store = Store::new(rt.alloc());
-        let x = store.var(1, Sort::Any)?;
-        let y = store.var(12, Sort::Num)?;
-        let one = store.app("g", &[y, x])?;
-        let args = if *swapped { [x, y] } else { [y, x] };
-        let other = store.app(name, &args)?;
-        assert_eq!(rt; store.same(one, other), *same, "{name}");
-        assert!(rt; store.same(one, one) && !store.same(x, y) && !store.same(x, one));
+        assert!(rt; compares(rt.alloc(), name, *swapped, *same)?, "{name}");
     }
     Ok(())
 }

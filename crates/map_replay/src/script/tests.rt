@@ -49,19 +49,34 @@ fn first_fault(found: Result<Items<Step>, ReadError>) -> Option<(Kind, usize)> {
     }
 }
 
+fn fault_in(alloc: Global, text: &str) -> Option<(Kind, usize)> {
+    first_fault(read_steps(alloc, text.as_bytes()))
+}
+
+/// The fault where one step may be read.
+fn fault_past_one(alloc: Global, text: &str) -> Option<(Kind, usize)> {
+    let mut cursor = Cursor::new(text.as_bytes());
+    first_fault(steps(alloc, &mut cursor, 1))
+}
+
 #[test]
-fn reads_scripts(rt: HostRuntime) -> Result<(), Fail> {
+fn reads_white_and_zeros(rt: HostRuntime) -> Result<(), Fail> {
     let text = "\tmap\r\nscript 0001 .\nmerge 007 at\n2 , 3 . merge 4294967295 at 0,1.";
-    let found = read_script(rt.alloc(), text.as_bytes())?;
-    assert_eq!(rt; found.len(), 2);
+    assert_eq!(rt; read_script(rt.alloc(), text.as_bytes())?.len(), 2);
+    Ok(())
+}
+
+#[test]
+fn finds_the_first_fault(rt: HostRuntime) -> Result<(), Fail> {
     for (text, kind, left) in FAULTS.iter() {
-        let found = first_fault(read_steps(rt.alloc(), text.as_bytes()));
-        assert_eq!(rt; found, Some((*kind, *left)), "{text}");
+        assert_eq!(rt; fault_in(rt.alloc(), text), Some((*kind, *left)), "{text}");
     }
     for (text, kind, left) in LIMITS.iter() {
-        let mut cursor = Cursor::new(text.as_bytes());
-        let found = first_fault(steps(rt.alloc(), &mut cursor, 1));
-        assert_eq!(rt; found, Some((*kind, *left)), "{text}");
+        assert_eq!(rt;
+            fault_past_one(rt.alloc(), text),
+            Some((*kind, *left)),
+            "{text}"
+        );
     }
     Ok(())
 }

@@ -17,21 +17,21 @@ closed_push atoms t e f = pushed atoms ∙ ap (λ v. v ++ (variables t ++ [])) e
     pushed [] = refl
     pushed (u ∷ ts) = ap (λ v. variables u ++ v) (pushed ts) ∙ sym (append_assoc (variables u) (variables_in ts) (variables t ++ []))
 
-pub loop-turn-preserved : goal.loop-turn-preserved
-loop-turn-preserved c =
+pub loop-name-preserved : goal.loop-name-preserved
+loop-name-preserved c =
     let atom : Tree ℕ = App c.in_ok-copy_of.field-0 c.new.result in
     let P : List (Tree ℕ) → Type 0 = All IsApplication in
     record {
-      applications = subst P (sym c.in_ok-push.ensures.ok) (All-push IsApplication c.loop-turn.atoms atom c.loop-turn.invariant.applications (application_app c.in_ok-copy_of.field-0 c.new.result));
-      closed = ap variables_in c.in_ok-push.ensures.ok ∙ closed_push c.loop-turn.atoms atom c.loop-turn.invariant.closed (no_variables c.in_ok-copy_of.field-0 c.new.result c.new.ensures);
+      applications = subst P (sym c.in_ok-push.ensures.ok) (All-push IsApplication c.loop-name.atoms atom c.loop-name.invariant.applications (application_app c.in_ok-copy_of.field-0 c.new.result));
+      closed = ap variables_in c.in_ok-push.ensures.ok ∙ closed_push c.loop-name.atoms atom c.loop-name.invariant.closed (no_variables c.in_ok-copy_of.field-0 c.new.result c.new.ensures);
     }
 
 pub returns : goal.returns
 returns c =
     let head : Tree ℕ = App c.in_ok-copy_of-2.field-0 c.new-2.result in
-    let none : variables_in (head ∷ c.loop-turn.atoms) ≡ [] = ap (λ v. v ++ variables_in c.loop-turn.atoms) (no_variables c.in_ok-copy_of-2.field-0 c.new-2.result c.new-2.ensures) ∙ c.loop-turn.invariant.closed in
+    let none : variables_in (head ∷ c.loop-name.atoms) ≡ [] = ap (λ v. v ++ variables_in c.loop-name.atoms) (no_variables c.in_ok-copy_of-2.field-0 c.new-2.result c.new-2.ensures) ∙ c.loop-name.invariant.closed in
     let P : List ℕ → Type 0 = All (IsNumberOf (length c.new-3.result)) in
     record {
-      applications = All-cons IsApplication head c.loop-turn.atoms (application_app c.in_ok-copy_of-2.field-0 c.new-2.result) c.loop-turn.invariant.applications;
+      applications = All-cons IsApplication head c.loop-name.atoms (application_app c.in_ok-copy_of-2.field-0 c.new-2.result) c.loop-name.invariant.applications;
       numbered = subst P (sym none) (All-nil (IsNumberOf (length c.new-3.result)));
     }

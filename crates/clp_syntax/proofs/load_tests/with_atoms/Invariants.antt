@@ -3,8 +3,8 @@ use Rattle.std.specs.Prelude.{All}
 use Rattle.clp_model.specs.Trees.{variables_in, IsApplication}
 use Rattle.clp_syntax.proofs.load_tests.with_atoms.Given as goal
 
-abbrev pub invariant-loop-turn : goal.invariant-loop-turn
-invariant-loop-turn l = record {
+abbrev pub invariant-loop-name : goal.invariant-loop-name
+invariant-loop-name l = record {
   applications : All IsApplication l.atoms;
   closed : variables_in l.atoms ≡ [];
 }
