@@ -1,7 +1,7 @@
 -- Terms put one after another: for the tests of limits.
 use Rattle.std.proofs.Common.{◌≡◌, ℕ, zero, suc, ◌+◌, ◌<◌, List, [], ◌∷◌, ◌++◌, length, replicate, get_or, All, refl, ap, ◌∙◌, sym, subst, arith, append_assoc, add-one}
 use Rattle.std.proofs.lemmas.List.{append-nil}
-use Rattle.std.proofs.lemmas.List.Elements.{All-nil, All-cons, All-append, All-push}
+use Rattle.std.proofs.lemmas.List.Elements.{All-nil, All-cons, All-append}
 use Rattle.clp_model.specs.declared.sort.Sort.{Sort}
 use Rattle.clp_model.specs.declared.sort.Sort.TheVariants.{Any}
 use Rattle.clp_model.specs.declared.tree.Variable.{Variable}
@@ -10,7 +10,7 @@ use Rattle.clp_model.specs.Trees.{variables, variables_in, IsApplication}
 use Rattle.clp_model.specs.Clauses.{sort_in}
 use Rattle.clp_model.proofs.Trees.{variables_app, variables_var, application_app}
 use Rattle.term_store.specs.Trees.{variable, tree_at, trees_at, AreIn, HasTree, Keeps}
-use Rattle.term_store.proofs.Keeping.{keeps_refl, have_push}
+use Rattle.term_store.proofs.Keeping.{have_push}
 use Rattle.clause_core.specs.Stored.{HasSort, AreParts}
 
 -- terms of the store, each of whose variables has its sort

@@ -1,5 +1,5 @@
 use Rattle.std.proofs.Common.{◌≡◌, ℕ, List, ◌++◌, string_bytes, codes, ap, ◌∙◌, sym, append_assoc}
-use Rattle.clp_model.specs.declared.tree.Tree.{Tree, Var}
+use Rattle.clp_model.specs.declared.tree.Tree.{Var}
 use Rattle.clp_model.proofs.Trees.{mapped_var}
 use Rattle.clause_core.specs.Stored.{number_of, atom_at}
 use Rattle.clp_model.specs.Trees.{mapped}

@@ -1,4 +1,4 @@
-use Rattle.std.proofs.Common.{◌≡◌, ℕ, List, [], ◌∷◌, ◌++◌, string_bytes, Result, Ok, Err, OnErr, ap, ◌∙◌, sym, subst, append_assoc}
+use Rattle.std.proofs.Common.{◌≡◌, ℕ, List, ◌++◌, string_bytes, Result, Ok, Err, OnErr, ap, ◌∙◌, sym, subst, append_assoc}
 use Rattle.term_store.specs.Trees.{AreIn}
 use Rattle.clause_core.specs.Stored.{atom_at, atoms_at}
 use Rattle.clp_syntax.specs.Print.{term_text, body_text, end_text, clause_text}

@@ -1,4 +1,4 @@
-use Rattle.std.proofs.Common.{◌≡◌, List, ℕ, [], None, ap, ◌∙◌}
+use Rattle.std.proofs.Common.{List, ℕ, None, ap, ◌∙◌}
 use Rattle.clp_syntax.specs.Input.{Input, anew}
 use Rattle.clp_syntax.proofs.reader.Reader.forget.Goals as goal
 
