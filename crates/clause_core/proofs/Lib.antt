@@ -5,4 +5,3 @@ pub mod Terms
 pub mod Made
 pub mod Kept
 pub mod Without
-pub mod Pushed

@@ -14,8 +14,3 @@ pub use clause::{Clause, RawClause, clause_size, copy_clause};
 pub use clp_model::{Limit, Pred, SourceClause, Tree};
 pub use fault::ClauseFault;
 pub use form::canonical;
-
-#[cfg(test)]
-mod limit_tests;
-#[cfg(test)]
-mod tests;

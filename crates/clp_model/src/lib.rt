@@ -16,6 +16,3 @@ pub use name::Name;
 pub use predicate::Pred;
 pub use sort::{Rel, Sort};
 pub use tree::{Tree, Variable};
-
-#[cfg(test)]
-mod tests;

@@ -20,12 +20,7 @@ pub use laws::{
 };
 pub use loading::{LoadFault, Loaded, load};
 pub use print::print_clause;
-pub use program::{printed_clauses_are_read_again, read_program, what_is_read_is_readable};
+pub use program::{
+    printed_clauses_are_read_again, read_clauses, read_program, what_is_read_is_readable,
+};
 pub use text_error::TextError;
-
-#[cfg(test)]
-mod load_tests;
-#[cfg(test)]
-mod print_tests;
-#[cfg(test)]
-mod tests;

@@ -131,7 +131,12 @@ fn clauses(
     }
 }
 
-/// The clauses of a text, or its first fault.
+/// The clauses of a program as `read_program` reads it, or the first fault of a text that is none: what it is,
+/// and how many bytes of the text there are from it on.
+///
+/// # Errors
+///
+/// `Fault` exactly where the text is no program, and `NoMemory` where there was not enough of it.
 #[tactic(auto, unfolding(crate::specs::Grammar::program))]
 pub fn read_clauses(alloc: Global, text: &[u8]) -> Result<Items<SourceClause>, ReadError>
     requires { length text.now < 2 ^ 32 }

@@ -12,6 +12,3 @@ pub use cursor::Cursor;
 pub use fault::{Fault, Kind, ReadError};
 pub use number::{MAX_NUMBER, number_value};
 pub use token::{MAX_NAME, Token, TokenKind, first_token, skip_white};
-
-#[cfg(test)]
-mod tests;

@@ -26,8 +26,3 @@ pub use status::Status;
 pub use term_store::NoMemory;
 pub use words::Words;
 pub use writing::put;
-
-#[cfg(test)]
-mod run_tests;
-#[cfg(test)]
-mod tests;

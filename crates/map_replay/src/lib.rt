@@ -23,9 +23,6 @@ pub use refusal::{Refusal, refusal_text};
 pub use replay_fault::ReplayFault;
 pub use replaying::{open_program, replay, run_script, start};
 pub use run::apply;
-pub use script::{printed_scripts_are_read_again, read_script};
+pub use script::{printed_scripts_are_read_again, read_script, read_steps};
 pub use state::{Entry, State};
 pub use step::Step;
-
-#[cfg(test)]
-mod tests;

@@ -132,9 +132,14 @@ fn steps(alloc: Global, cursor: &mut Cursor<'_>, count: usize) -> Result<Items<S
     }
 }
 
-/// The steps of a text, or its first fault.
+/// The steps of a script as `read_script` reads it, or the first fault of a text that is none: what it is, and
+/// how many bytes of the text there are from it on.
+///
+/// # Errors
+///
+/// `Fault` exactly where the text is no script, and `NoMemory` where there was not enough of it.
 #[tactic(auto, unfolding(crate::specs::Script::script))]
-fn read_steps(alloc: Global, text: &[u8]) -> Result<Items<Step>, ReadError>
+pub fn read_steps(alloc: Global, text: &[u8]) -> Result<Items<Step>, ReadError>
     ensures value { Gives (spec.script text.now) result }
     ensures limits { IfOk result (λ steps. IsScript steps) }
 {
@@ -166,6 +171,3 @@ pub fn read_script(alloc: Global, text: &[u8]) -> Result<Items<Step>, TextError>
 pub fn printed_scripts_are_read_again()
     ensures { (steps : List S) → IsScript steps → spec.script (script_text steps) ≡ Ok steps }
 {}
-
-#[cfg(test)]
-mod tests;

@@ -10,6 +10,3 @@ pub use clp_model::Sort;
 pub use fault::{NoMemory, TermFault};
 pub use store::Store;
 pub use term::{Look, Term};
-
-#[cfg(test)]
-mod tests;

@@ -1,5 +1,0 @@
-use Rattle.std.proofs.Common.{length}
-use Rattle.term_store.proofs.tests.+are_so.Given as goal
-
-abbrev pub decreases-are_so : goal.decreases-are_so
-decreases-are_so l = length l.terms.now
