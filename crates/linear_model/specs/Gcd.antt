@@ -1,0 +1,12 @@
+-- The greatest common divisor, by Euclid's steps.
+use Rattle.std.specs.Prelude.{ℕ, zero, suc, ◌%◌}
+
+-- in at most n steps
+abbrev pub gcd_within : ℕ → ℕ → ℕ → ℕ
+gcd_within zero a b = a
+gcd_within (suc n) a zero = a
+gcd_within (suc n) a (suc b) = gcd_within n (suc b) (a % suc b)
+
+-- each step makes the second number smaller, so that b steps are enough
+unfoldable pub gcd : ℕ → ℕ → ℕ
+gcd a b = gcd_within b a b
