@@ -1,0 +1,11 @@
+mod Splitting
+mod Total
+mod Starting
+mod Unfolding
+mod Folding
+mod Narrowing
+mod Subsuming
+mod Useless
+mod SameInstances
+mod Defining
+mod Least

@@ -1,0 +1,5 @@
+pub mod Weight
+pub mod Ranked
+pub mod Rules
+pub mod Least
+pub mod Entries
