@@ -1,0 +1,17 @@
+pub mod Variables
+pub mod Substituted
+pub mod Apart
+pub mod Sizes
+pub mod Good
+pub mod Triangular
+pub mod Solved
+pub mod Scaling
+pub mod Marks
+pub mod Moved
+pub mod Unique
+pub mod Laws
+pub mod Applications
+pub mod Examples
+pub mod Matched
+pub mod Classes
+pub mod Matchings
