@@ -1,0 +1,9 @@
+pub mod Divisors
+pub mod Division
+pub mod Normalized
+pub mod Rising
+pub mod Nonzero
+pub mod Wide
+pub mod Steps
+pub mod Quotients
+pub mod Made
