@@ -32,3 +32,10 @@ gcd_step a b = same_from_IsGcd a b (gcd a b) (gcd b (a % b)) (gcd_is a b) (IsGcd
 pub gcd_zero : (a : ℕ) → gcd a 0 ≡ a
 unfolding gcd
 gcd_zero a = refl
+
+pub gcd_positive_last : (a b : ℕ) → 0 < b → 0 < gcd a b
+gcd_positive_last a b h = by (gcd a b) refl
+  where
+    by : (g : ℕ) → gcd a b ≡ g → 0 < gcd a b
+    by zero e = let d = subst (λ g. g ∣ b) e (gcd_is a b).1 in absurd (let z = eq-zero_of_zero-dvd d in omega arith)
+    by (suc n) e = omega arith
