@@ -1,10 +1,10 @@
 -- The fraction in lowest terms as the code computes it, and whether it is within the limit.
-use Rattle.std.proofs.Common.{◌≡◌, ℕ, zero, suc, ◌*◌, ◌<◌, ◌≤◌, ◌/◌, Bool, true, false, ◌&&◌, arith, refl, sym, ◌∙◌, ap, subst, to_z, of_z}
+use Rattle.std.proofs.Common.{◌≡◌, ℕ, ◌<◌, ◌≤◌, ◌/◌, Bool, true, false, ◌&&◌, arith, refl, sym, ◌∙◌, ap, subst, to_z, of_z}
 use Rattle.std.specs.Prelude.{unsigned_abs, int_div, nat_le, Result, Ok, Err}
 use Rattle.std.proofs.Math.IntN.{ℤ, pos}
 use Rattle.std.proofs.lemmas.Int.{to_z-of_z, fits_signed_from_abs}
 use Rattle.std.proofs.lemmas.Bool.Decides.{nat_tests}
-use mir.Syntax.{w64, w128}
+use mir.Syntax.{w64}
 use Rattle.clp_rationals.specs.Fraction.{Fraction, IsLowest}
 use Rattle.linear_model.specs.Gcd.{gcd}
 use Rattle.linear_model.specs.Normal.{limit}

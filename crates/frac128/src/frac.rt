@@ -80,6 +80,8 @@ impl Frac {
     /// The numerator, whose sign is that of the fraction.
     pub fn num(self) -> i64
         ensures value { result ≡ self.num }
+        ensures lowest { IsLowest self }
+        ensures within { is_small self ≡ true }
     {
         self.num
     }
@@ -87,6 +89,8 @@ impl Frac {
     /// The denominator, at least 1.
     pub fn den(self) -> i64
         ensures value { result ≡ pos self.den }
+        ensures lowest { IsLowest self }
+        ensures within { is_small self ≡ true }
     {
         self.den as i64
     }

@@ -42,5 +42,9 @@ pub fn divided(number: i128, divisor: u128) -> Option<i64>
         return None;
     }
     let quotient = quotient as i64;
-    if number < 0 { Some(-quotient) } else { Some(quotient) }
+    if number < 0 {
+        Some(-quotient)
+    } else {
+        Some(quotient)
+    }
 }

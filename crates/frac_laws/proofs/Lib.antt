@@ -1,2 +1,4 @@
 pub mod Gcd
 pub mod Reducing
+pub mod Exact
+pub mod Inverses

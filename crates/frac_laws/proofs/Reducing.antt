@@ -12,7 +12,7 @@ use Rattle.clp_rationals.specs.Fraction.{Fraction, IsLowest, IsOver}
 use Rattle.clp_rationals.proofs.Whole.{mul_assoc_ℤ, mul_add_ℤ, neg_mul, mul_neg}
 use Rattle.clp_rationals.proofs.Lowest.{cancel_ℤ, lowest_over}
 use Rattle.linear_model.specs.Gcd.{gcd}
-use Rattle.frac_model.specs.Reduced.{fraction, reduced}
+use Rattle.frac_model.specs.Reduced.{reduced}
 use Rattle.frac_laws.proofs.Gcd.{gcd_is, divided_back}
 
 pub add_mul_ℤ : (a b c : ℤ) → (a +ℤ b) *ℤ c ≡ a *ℤ c +ℤ b *ℤ c

@@ -1,5 +1,5 @@
 -- What a computation with fractions within the limit answers.
-use Rattle.std.specs.Prelude.{ℕ, Bool, ◌&&◌, unsigned_abs, nat_le, if◌then◌else◌, Result, Ok, Err}
+use Rattle.std.specs.Prelude.{Bool, ◌&&◌, unsigned_abs, nat_le, if◌then◌else◌, Result, Ok, Err}
 use Rattle.clp_rationals.specs.Fraction.{Fraction}
 use Rattle.linear_model.specs.Forms.{is_zero}
 use Rattle.linear_model.specs.Normal.{limit}

@@ -1,4 +1,4 @@
-use Rattle.std.proofs.Common.{◌/◌, arith, refl, to_z, of_z, pos}
+use Rattle.std.proofs.Common.{arith, refl, to_z, of_z, pos}
 use Rattle.std.specs.Prelude.{int_div}
 use Rattle.std.proofs.lemmas.Int.{to_z-of_z}
 use mir.Syntax.{w128}

@@ -1,0 +1,5 @@
+use Rattle.frac_laws.proofs.Exact.{sum_over}
+use Rattle.frac_laws.proofs.sum_is_exact.Goals as goal
+
+pub returns : goal.returns
+returns c = λ f g p r q s h. sum_over f g p r q s h.0 h.1 h.2 h.3
