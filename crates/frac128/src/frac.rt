@@ -4,9 +4,9 @@ ghost use Rattle.linear_model.specs.Normal.{limit};
 ghost use Rattle.frac_model.specs.Reduced as spec;
 ghost use Rattle.frac_model.specs.Results.{is_small, if_small, divided};
 
-use crate::euclid::gcd;
 use crate::wide::{LIMIT, cross_sum, divided, product};
 use frac_model::FracFault;
+use lin_row::gcd;
 use std::marker::Model;
 
 /// A fraction in lowest terms: its denominator is at least 1, and both parts are at most

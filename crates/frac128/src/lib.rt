@@ -2,7 +2,6 @@
 //! is refused where it leaves that range. What is computed in between has at most 127 bits, so nothing wraps.
 #![tactic(auto)]
 
-mod euclid;
 mod frac;
 mod wide;
 
