@@ -5,6 +5,7 @@
 
 mod combine;
 mod euclid;
+mod order;
 mod reduce;
 mod row;
 
