@@ -1,0 +1,11 @@
+pub mod Sums
+pub mod SumsKept
+pub mod Reduced
+pub mod SumsReduced
+pub mod Certifying
+pub mod Turns
+pub mod Variables
+pub mod Outcomes
+pub mod Reaching
+pub mod Starting
+pub mod Public

@@ -1,0 +1,5 @@
+use Rattle.chain_laws.proofs.Starting.{not_entailed, satisfiable}
+use Rattle.chain_laws.proofs.what_is_not_found_is_not_entailed.Goals as goal
+
+pub returns : goal.returns
+returns c = record { target = not_entailed; falsehood = satisfiable }
