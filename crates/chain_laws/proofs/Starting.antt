@@ -10,13 +10,13 @@ use Rattle.clp_model.specs.declared.sort.Rel.{Rel}
 use Rattle.clp_model.specs.declared.sort.Rel.TheVariants.{Eq, Le, Lt}
 use Rattle.clp_model.proofs.Membership.{Among, first, next, among_either, among_front, among_mapped, among_last, from_among, all_among}
 use Rattle.linear_model.specs.Forms.{IsRising, coefficient}
-use Rattle.linear_model.specs.Changes.{negated}
+use Rattle.linear_model.specs.Changes.{negated, flipped, at_most}
 use Rattle.linear_model.specs.Certificates.{Entails, weighted_coefficient, weighted_constant, Allowed, Shows, ShowsFalse}
 use Rattle.linear_model.specs.Items.{Item}
 use Rattle.linear_model.specs.Chain.{Shown, NotEntailed, places, chain, signed, part_of, begun, first_last, begun_with}
 use Rattle.linear_laws.proofs.Lists.{mapped_out}
-use Rattle.linear_laws.proofs.Opposite.{negated_holds, rising_opposite}
-use Rattle.chain_laws.specs.Laws.{RisingRows}
+use Rattle.linear_laws.proofs.Opposite.{negated_holds, halves_hold, rising_opposite}
+use Rattle.chain_laws.specs.Laws.{RisingRows, HalfNotFound}
 use Rattle.chain_laws.proofs.Sums.{OnEquations, Gives, IsSum}
 use Rattle.chain_laws.proofs.Certifying.{certifies, certifies_target}
 use Rattle.chain_laws.proofs.Variables.{Risings}
@@ -146,3 +146,7 @@ not_entailed rows target n g t e h =
     let hold = begun_rows all (RowHolds s.0) (λ i a. s.1 i (out_first_last (begun all) i a)) in
     (negated_holds s.0 target n).0 (hold (negated target) first)
     (h s.0 (All-from_recursion (RowHolds s.0) rows (all_among (RowHolds s.0) rows (λ r a. hold r (next a)))))
+
+pub half_not_found : HalfNotFound
+half_not_found rows target e g t (inl n) h = not_entailed rows (at_most target) (λ i. cc) g t n (λ u k. ((halves_hold u target e).0 (h u k)).0)
+half_not_found rows target e g t (inr n) h = not_entailed rows (at_most (flipped target)) (λ i. cc) g (rising_opposite target.pairs t) n (λ u k. ((halves_hold u target e).0 (h u k)).1)

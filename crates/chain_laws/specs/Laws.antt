@@ -1,10 +1,13 @@
 -- The statements of the laws of the chain.
-use Rattle.std.specs.Prelude.{◌≡◌, ◌<◌, ◌≤◌, ℕ, List, [], length, All, Contains, Option, Some, None, true, false, nat_le, ◌↔◌}
+use Rattle.std.specs.Prelude.{◌≡◌, ◌⊎◌, ◌<◌, ◌≤◌, ℕ, List, [], length, All, Contains, Option, Some, None, true, false, nat_le, ◌↔◌}
 use Rattle.clp_model.specs.Clauses.{Row}
+use Rattle.clp_model.specs.declared.sort.Rel.TheVariants.{Eq}
 use Rattle.linear_model.specs.Forms.{IsRising}
+use Rattle.linear_model.specs.Changes.{at_most, flipped}
 use Rattle.linear_model.specs.Elimination.{has}
+use Rattle.linear_model.specs.Certificates.{Entails}
 use Rattle.linear_model.specs.Items.{Item, turn, kept}
-use Rattle.linear_model.specs.Chain.{Outcome, Shown, NotEntailed, Overflow, TooLong, first_false, least_variable, all_within, unless_false, turn_by, chain_within, places, chain}
+use Rattle.linear_model.specs.Chain.{Outcome, Shown, NotEntailed, Overflow, TooLong, first_false, least_variable, all_within, unless_false, turn_by, chain_within, places, chain, begun_with}
 
 abbrev pub RisingRows : List Row → Type 0
 RisingRows rows = All (λ r. IsRising r.pairs) rows
@@ -58,3 +61,10 @@ abbrev pub VariablesRise : Type 0
 VariablesRise =
     (items : List Item) (x y : ℕ) → RisingItems items
     → least_variable items ≡ Some x → least_variable (kept (turn x items)) ≡ Some y → x < y
+
+-- where one half of an equation isn't found, the rows do not entail the equation
+abbrev pub HalfNotFound : Type 0
+HalfNotFound =
+    (rows : List Row) (target : Row) → target.rel ≡ Eq → RisingRows rows → IsRising target.pairs
+    → (chain (begun_with rows (at_most target)) ≡ NotEntailed) ⊎ (chain (begun_with rows (at_most (flipped target))) ≡ NotEntailed)
+    → ¬ Entails rows target

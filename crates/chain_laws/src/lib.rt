@@ -10,7 +10,7 @@ ghost use Rattle.linear_model.specs.Forms.{IsRising};
 ghost use Rattle.linear_model.specs.Certificates.{Entails, Shows, ShowsFalse};
 ghost use Rattle.linear_model.specs.Items.{Item, turn, kept};
 ghost use Rattle.linear_model.specs.Chain.{NotEntailed, Shown, least_variable, chain, begun, begun_with, signed, part_of};
-ghost use Rattle.chain_laws.specs.Laws.{RisingRows, RisingItems, IsLeast, HaveMultipliers, Reaches, OutcomeIsExact, TurnsSuffice, GoesByTurns, VariablesRise};
+ghost use Rattle.chain_laws.specs.Laws.{RisingRows, RisingItems, IsLeast, HaveMultipliers, Reaches, OutcomeIsExact, TurnsSuffice, GoesByTurns, VariablesRise, HalfNotFound};
 
 /// What the chain shows is shown, of an inequality and of falsehood, with one multiplier for each row.
 pub fn what_is_found_is_shown()
@@ -20,10 +20,11 @@ pub fn what_is_found_is_shown()
     ensures falsehood_count { (rows : List Row) (i : Item) → chain (begun rows) ≡ Shown i → length (signed i) ≡ length rows }
 {}
 
-/// Where the chain finds nothing, the rows do not entail the inequality, and without one some valuation makes all
+/// Where the chain finds nothing, the rows do not entail the inequality, or the equation that it is a half of; without one some valuation makes all
 /// rows hold.
 pub fn what_is_not_found_is_not_entailed()
     ensures target { (rows : List Row) (target : Row) → ¬ (target.rel ≡ Eq) → RisingRows rows → IsRising target.pairs → chain (begun_with rows target) ≡ NotEntailed → ¬ Entails rows target }
+    ensures half { HalfNotFound }
     ensures falsehood { (rows : List Row) → RisingRows rows → chain (begun rows) ≡ NotEntailed → (u : Valuation) × All (RowHolds u) rows }
 {}
 

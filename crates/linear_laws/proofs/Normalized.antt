@@ -114,7 +114,7 @@ turned (pos n) m h = ap (λ b. int_lt (int_div (pos n) (divisor_of b m)) (pos 0)
 turned (negsuc n) zero h = absurd (omega arith)
 turned (negsuc n) (suc m) h = not_below (suc n / suc m)
 
-not_flipped : (rel : Rel) (ps : List (ℕ × ℤ)) (m : ℕ) → 0 < m → is_flipped rel (divided_pairs (divisor_of (is_flipped rel ps) m) ps) ≡ false
+pub not_flipped : (rel : Rel) (ps : List (ℕ × ℤ)) (m : ℕ) → 0 < m → is_flipped rel (divided_pairs (divisor_of (is_flipped rel ps) m) ps) ≡ false
 not_flipped Eq [] m h = refl
 not_flipped Eq (p ∷ ps) m h = turned p.1 m h
 not_flipped Le ps m h = refl

@@ -12,8 +12,9 @@ use Rattle.clp_model.specs.declared.sort.Rel.TheVariants.{Eq, Le, Lt}
 use Rattle.linear_model.specs.Forms.{Above, IsRising, is_zero, coefficient}
 use Rattle.linear_model.specs.Gcd.{gcd}
 use Rattle.linear_model.specs.Normal.{joint_gcd, row_gcd, divided_pairs, divided, divisor_of, is_flipped, normal, IsNormal, limit, pairs_within, is_within}
-use Rattle.linear_model.specs.Changes.{opposite_pairs, opposite_rel, negated, flipped}
+use Rattle.linear_model.specs.Changes.{opposite_pairs, opposite_rel, negated, flipped, at_most}
 use Rattle.linear_laws.specs.Laws.{EquationIsTwoHalves}
+use Rattle.linear_laws.proofs.Normalized.{not_flipped}
 use Rattle.linear_laws.proofs.Ring.{one_of_three}
 use Rattle.linear_laws.proofs.Valuations.{row_value}
 
@@ -166,6 +167,19 @@ negated_is_normal r n h = record { rising = rising_opposite r.pairs h.rising; st
 
 pub flipped_is_normal : (r : Row) → ¬ (r.rel ≡ Eq) → IsNormal r → IsNormal (flipped r)
 flipped_is_normal r n h = record { rising = rising_opposite r.pairs h.rising; stays = normal_flipped r n ∙ ap flipped h.stays }
+
+-- ---- the halves of an equation in normal form
+stays_unflipped : (r : Row) → normal r ≡ r → is_flipped r.rel r.pairs ≡ false
+stays_unflipped r e = sym (ap (λ (s : Row). is_flipped s.rel s.pairs) e) ∙ not_flipped r.rel r.pairs (max 1 (row_gcd r)) (omega arith)
+
+pub half_is_normal : (r : Row) → IsNormal r → IsNormal (at_most r)
+half_is_normal r h =
+    let g = max 1 (row_gcd r) in
+    let a : divided (pos g) r ≡ normal r = ap (λ b. divided (divisor_of b g) r) (sym (stays_unflipped r h.stays)) in
+    record { rising = h.rising; stays = ap at_most (a ∙ h.stays) }
+
+pub other_half_is_normal : (r : Row) → IsNormal r → IsNormal (at_most (flipped r))
+other_half_is_normal r h = flipped_is_normal (at_most r) (λ e. cc) (half_is_normal r h)
 
 pub negated_within : (r : Row) → is_within (negated r) ≡ is_within r
 negated_within r =

@@ -9,7 +9,7 @@ ghost use Rattle.clp_model.specs.Clauses.{Row, RowHolds};
 ghost use Rattle.clp_model.specs.declared.sort.Rel.TheVariants.{Eq};
 ghost use Rattle.linear_model.specs.Forms.{IsRising};
 ghost use Rattle.linear_model.specs.Normal.{normal, IsNormal, is_within};
-ghost use Rattle.linear_model.specs.Changes.{renamed, negated, flipped};
+ghost use Rattle.linear_model.specs.Changes.{renamed, negated, flipped, at_most};
 ghost use Rattle.linear_model.specs.Certificates.{Entails, Unsatisfiable, Part, Shows, ShowsFalse};
 ghost use Rattle.linear_laws.specs.Laws.{carried, EquationIsTwoHalves, EliminationIsExact, VariableIsGone, NoVariableComes, EliminationRises, EquationIsEntailed};
 
@@ -40,6 +40,8 @@ pub fn opposite_sum_gives_the_other_half()
     ensures same { (u : Valuation) (r : Row) → r.rel ≡ Eq → RowHolds u (flipped r) ↔ RowHolds u r }
     ensures halves { EquationIsTwoHalves }
     ensures is_normal { (r : Row) → ¬ (r.rel ≡ Eq) → IsNormal r → IsNormal (flipped r) }
+    ensures half_is_normal { (r : Row) → IsNormal r → IsNormal (at_most r) }
+    ensures other_half_is_normal { (r : Row) → IsNormal r → IsNormal (at_most (flipped r)) }
     ensures within { (r : Row) → is_within (flipped r) ≡ is_within r }
 {}
 
