@@ -20,8 +20,8 @@ pub fn what_is_found_is_shown()
     ensures falsehood_count { (rows : List Row) (i : Item) → chain (begun rows) ≡ Shown i → length (signed i) ≡ length rows }
 {}
 
-/// Where the chain finds nothing, the rows do not entail the inequality, or the equation that it is a half of; without one some valuation makes all
-/// rows hold.
+/// Where the chain finds nothing, the rows do not entail the inequality, nor the equation that it is a half of;
+/// without a target, some valuation makes all rows hold.
 pub fn what_is_not_found_is_not_entailed()
     ensures target { (rows : List Row) (target : Row) → ¬ (target.rel ≡ Eq) → RisingRows rows → IsRising target.pairs → chain (begun_with rows target) ≡ NotEntailed → ¬ Entails rows target }
     ensures half { HalfNotFound }
