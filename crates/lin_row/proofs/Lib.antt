@@ -7,3 +7,5 @@ pub mod Wide
 pub mod Steps
 pub mod Quotients
 pub mod Made
+pub mod Coefficients
+pub mod Opposites

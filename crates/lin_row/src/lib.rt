@@ -3,12 +3,15 @@
 //! are computed in 128 bits, so that a result is exact or refused by `Overflow`.
 #![tactic(auto)]
 
+mod change;
 mod combine;
 mod euclid;
 mod order;
 mod reduce;
 mod row;
+mod truth;
 
 pub use clp_model::Rel;
 pub use euclid::gcd;
 pub use row::{Row, RowFault};
+pub use truth::Truth;
