@@ -222,3 +222,6 @@ module _ (g : List Node) (trees : ℕ → Tree Variable) (describes : Describes 
     -- what is read is the most general unifier
     pub is_mgu : (bs : List Binding) × (most_general_unifier (equations trees input) ≡ Some bs) × ((v : Variable) → image bs v ≡ image (bindings g trees rep ps) v)
     is_mgu = found_is_mgu (equations trees input) (image (bindings g trees rep ps)) is_solution
+
+    pub in_order : AreTriangular (λ v. Unit {0}) (bindings g trees rep ps)
+    in_order = triangular_weaker (OfPlaces ps) (λ v. Unit {0}) (λ v k. tt) (bindings g trees rep ps) (are_triangular ps order)

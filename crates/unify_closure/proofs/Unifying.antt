@@ -6,6 +6,8 @@ use Rattle.clp_model.specs.Values.{Value}
 use Rattle.clp_model.proofs.Membership.{Among}
 use Rattle.unify_model.specs.Substituting.{Binding, image}
 use Rattle.unify_model.specs.Equations.{AllHold, under}
+use Rattle.unify_model.specs.Solving.{IsMostGeneralUnifier}
+use Rattle.unify_laws.proofs.Triangular.{AreTriangular}
 use Rattle.unify_laws.proofs.Laws.{none_is_mgu}
 use Rattle.unify_closure.specs.declared.node.Node.{Node}
 use Rattle.unify_closure.specs.declared.closing.State.{State}
@@ -15,8 +17,8 @@ use Rattle.unify_closure.specs.Closing.{NeverHold}
 use Rattle.unify_closure.specs.Turns.{best_at, Closes, AllBelow}
 use Rattle.unify_closure.specs.Reading.{IsOrder, with_binding, bindings, equations, HasOnePlace}
 use Rattle.unify_closure.specs.Sorting.{rep_of, latest, latest_onto, Solves, NeverSolves, AreStands}
-use Rattle.unify_closure.specs.Solved.{StandsFor, HasImages, HasNoUnifier}
-use Rattle.unify_closure.proofs.Reading.{is_mgu}
+use Rattle.unify_closure.specs.Solved.{StandsFor, AreMostGeneral, HasNoUnifier}
+use Rattle.unify_closure.proofs.Reading.{is_mgu, is_solution, in_order}
 
 to_pairs : (trees : ℕ → Tree Variable) (a : Variable → Value) (es : List (ℕ × ℕ)) → AllHold a (equations trees es) → PairsHold (value_at a trees) es
 to_pairs trees a [] h = tt
@@ -70,13 +72,14 @@ module _ (g : List Node) (s : State) (input : List (ℕ × ℕ)) (is : Closes g 
       ap (λ r. with_binding trees p (node_at g p) r (bindings g trees (λ q. b (c q)) ps)) (sym (f.each p o.0.within))
       ∙ ap (λ bs. with_binding trees p (node_at g p) (rep_of stands p) bs) (bindings_same trees ps o.1)
 
-  pub reads_mgu : HasOnePlace g → (order : List ℕ) → IsOrder g (rep_of stands) (latest order) → ((p : ℕ) → p < length g → Among p (latest order)) → (trees : ℕ → Tree Variable) → Describes g trees → HasImages (equations trees input) (bindings g trees (rep_of stands) (latest order))
+  pub reads_mgu : HasOnePlace g → (order : List ℕ) → IsOrder g (rep_of stands) (latest order) → ((p : ℕ) → p < length g → Among p (latest order)) → (trees : ℕ → Tree Variable) → Describes g trees → AreMostGeneral (equations trees input) (bindings g trees (rep_of stands) (latest order))
   reads_mgu one order o every trees d =
       let m = is_mgu g trees d one c b input is (latest order) (order_same (latest order) o) every in
+      let same = bindings_same trees (latest order) o in
       record {
-        unifier = m.0;
-        is = m.1;
-        images = λ v. m.2 v ∙ ap (λ (bs : List Binding). image bs v) (bindings_same trees (latest order) o);
+        images = record { unifier = m.0; is = m.1; images = λ v. m.2 v ∙ ap (λ (bs : List Binding). image bs v) same };
+        solution = subst (λ (bs : List Binding). IsMostGeneralUnifier (equations trees input) (image bs)) same (is_solution g trees d one c b input is (latest order) (order_same (latest order) o) every);
+        order = subst (AreTriangular (λ v. Unit {0})) same (in_order g trees d one c b input is (latest order) (order_same (latest order) o) every);
       }
 
 -- ---- the places of an order

@@ -1,0 +1,4 @@
+pub mod Places
+pub mod Graphs
+pub mod Pairs
+pub mod Bindings
