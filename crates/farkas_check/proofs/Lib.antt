@@ -1,3 +1,4 @@
 pub mod Products
 pub mod Sums
 pub mod Found
+pub mod Walking

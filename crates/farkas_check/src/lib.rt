@@ -3,6 +3,7 @@
 #![tactic(auto)]
 
 mod cert;
+mod check;
 mod fault;
 mod part;
 mod sum;
