@@ -1,12 +1,11 @@
 -- Where a variable's coefficient is found.
-use Rattle.std.proofs.Common.{◌≡◌, ℕ, zero, suc, ◌+◌, ◌<◌, ◌≤◌, List, [], ◌∷◌, length, get_or, drop, drop-cons, add-one, Bool, true, false, ◌&&◌, arith, refl, sym, ◌∙◌, ap, subst, to_z, of_z}
-use Rattle.std.specs.Prelude.{unsigned_abs, nat_le, nat_eq, All, if◌then◌else◌}
+use Rattle.std.proofs.Common.{◌≡◌, ℕ, ◌+◌, ◌<◌, ◌≤◌, List, [], ◌∷◌, length, get_or, drop, drop-cons, add-one, Bool, true, false, arith, refl, sym, ◌∙◌, ap, subst}
+use Rattle.std.specs.Prelude.{unsigned_abs, nat_eq, All, if◌then◌else◌}
 use Rattle.std.specs.List.{AllByRecursion}
 use Rattle.std.proofs.lemmas.List.Elements.{recursion_from_All}
 use Rattle.std.proofs.Math.IntN.{ℤ, pos, ◌+ℤ◌}
 use Rattle.std.proofs.lemmas.Int.{ints}
 use Rattle.std.proofs.lemmas.Bool.Decides.{nat_tests}
-use mir.Syntax.{w64}
 use Rattle.linear_model.specs.Forms.{coefficient, IsRising}
 use Rattle.linear_model.specs.Normal.{limit}
 use Rattle.linear_laws.proofs.Rising.{absent, first_coefficient, first_is_least}

@@ -1,13 +1,13 @@
 -- The turns of a weighted sum.
 use Rattle.std.proofs.Common.{◌≡◌, ℕ, zero, suc, ◌+◌, ◌*◌, ◌<◌, ◌≤◌, List, [], ◌∷◌, length, get_or, drop, drop-cons, add-one, Bool, true, false, ◌&&◌, arith, refl, sym, ◌∙◌, ap, subst, to_z, of_z}
-use Rattle.std.specs.Prelude.{unsigned_abs, nat_le, nat_eq, FitsSigned, if◌then◌else◌}
+use Rattle.std.specs.Prelude.{unsigned_abs, nat_le}
 use Rattle.std.proofs.Math.IntN.{ℤ, pos, ◌+ℤ◌, ◌*ℤ◌}
 use Rattle.std.proofs.lemmas.Int.{ints, to_z-of_z, fits_signed_from_abs}
 use Rattle.std.proofs.lemmas.Bool.Decides.{nat_tests}
 use mir.Syntax.{w64, w128}
 use Rattle.clp_model.specs.Clauses.{Row}
-use Rattle.linear_model.specs.Forms.{coefficient, IsRising}
-use Rattle.linear_model.specs.Normal.{limit, pairs_within}
+use Rattle.linear_model.specs.Forms.{coefficient}
+use Rattle.linear_model.specs.Normal.{limit}
 use Rattle.linear_model.specs.Chain.{multiplier_limit, weights_within}
 use Rattle.linear_model.specs.Certificates.{weighted_coefficient, weighted_constant}
 

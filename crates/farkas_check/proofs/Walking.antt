@@ -1,5 +1,5 @@
 -- The walk through the variables meets each that occurs.
-use Rattle.std.proofs.Common.{◌≡◌, ℕ, zero, suc, ◌+◌, ◌<◌, ◌≤◌, ◌⊎◌, inl, inr, List, [], ◌∷◌, Bool, true, false, ◌&&◌, ◌||◌, Option, Some, None, arith, refl, sym, ◌∙◌, ap, subst}
+use Rattle.std.proofs.Common.{◌≡◌, ℕ, ◌+◌, ◌<◌, ◌≤◌, ◌⊎◌, inl, inr, List, [], ◌∷◌, Bool, true, false, ◌&&◌, ◌||◌, Option, Some, None, arith, refl, sym, ◌∙◌, ap, subst}
 use Rattle.std.specs.Prelude.{⊤, nat_le, nat_lt, nat_eq, if◌then◌else◌}
 use Rattle.std.specs.Ordering.{int_eq}
 use Rattle.std.proofs.Math.IntN.{ℤ, pos, ◌+ℤ◌, ◌*ℤ◌}
@@ -95,9 +95,9 @@ module _ (rows : List Row) (ms : List ℤ) (k : ℤ) (pairs : List (ℕ × ℤ))
       elim (cases (mentions_any v rows)) [
         | inl h ↦ passing_row test rows v b.0 h
         | inr h ↦ elim (cases (mentions v pairs)) [
-            | inl g ↦ passing test pairs v b.1 g
-            | inr g ↦ unmentioned rows ms k pairs v h g
-          ]
+          | inl g ↦ passing test pairs v b.1 g
+          | inr g ↦ unmentioned rows ms k pairs v h g
+        ]
       ]
 
   pub all_cancel : ((v : ℕ) → cancels_at rows ms k pairs v ≡ true) → cancels rows ms k pairs ≡ true

@@ -87,6 +87,11 @@ abbrev pub side : Bool → Rel → Row → Row
 side false rel r = record { rel = rel; pairs = r.pairs; constant = r.constant }
 side true rel r = record { rel = rel; pairs = opposite_pairs r.pairs; constant = neg_ℤ r.constant }
 
+-- the multiplier with which the row's own sum gives the side
+abbrev pub oriented : Bool → ℤ → ℤ
+oriented false k = k
+oriented true k = neg_ℤ k
+
 -- the first fault of a part that is to show an inequality
 abbrev pub check_fault : List Row → Row → Part → Option CheckFault
 check_fault rows target part =

@@ -1,5 +1,5 @@
 -- A part of a certificate, and the range of its numbers.
-use Rattle.std.specs.Prelude.{ℤ, List, Bool, ◌&&◌, unsigned_abs, nat_le, Result, Ok, Err, if◌then◌else◌}
+use Rattle.std.specs.Prelude.{ℤ, List, Bool, ◌&&◌, unsigned_abs, nat_le}
 use Rattle.linear_model.specs.Certificates.{Part}
 use Rattle.linear_model.specs.Chain.{multiplier_limit, weights_within}
 

@@ -57,7 +57,13 @@ fn strict_used(rows: &[Row], multipliers: &[i64]) -> bool
 }
 
 /// Whether the variable has the same coefficient in the weighted sum of the rows and in k times the pairs.
-fn cancels_at(rows: &[Row], multipliers: &[i64], k: i64, pairs: &[(u32, i64)], variable: u32) -> bool
+fn cancels_at(
+    rows: &[Row],
+    multipliers: &[i64],
+    k: i64,
+    pairs: &[(u32, i64)],
+    variable: u32,
+) -> bool
     requires lengths { length multipliers.now ≡ length rows.now }
     requires few { length rows.now ≤ 128 }
     requires within { weights_within multipliers.now ≡ true }
@@ -131,4 +137,60 @@ fn weights_fault(rows: &[Row], part: &Part) -> Option<CheckFault>
         return Some(CheckFault::Negative);
     }
     None
+}
+
+/// The multiplier with which the row's own sum gives its side.
+fn oriented(k: i64, is_flipped: bool) -> i64
+    requires { unsigned_abs k ≤ multiplier_limit }
+    ensures { result ≡ spec.oriented is_flipped k }
+{
+    if is_flipped { -k } else { k }
+}
+
+/// Whether nothing need be left of the constants.
+fn allows_equal(rel: Rel, k: i64) -> bool
+    ensures { result ≡ spec.allows_equal rel k }
+{
+    match rel {
+        Rel::Eq | Rel::Lt => false,
+        Rel::Le => k > 0,
+    }
+}
+
+/// The first fault of a part that is to show the target's sum, or its opposite, under the relation.
+pub fn side_fault(
+    rows: &[Row],
+    rel: Rel,
+    is_flipped: bool,
+    target: &Row,
+    part: &Part,
+) -> Option<CheckFault>
+    requires few { length rows.now ≤ 128 }
+    ensures { result ≡ spec.check_fault rows.now (spec.side is_flipped rel target.now) part.now }
+{
+    match weights_fault(rows, part) {
+        Some(fault) => Some(fault),
+        None => {
+            let k = part.k();
+            sum_fault(
+                rows,
+                part.multipliers(),
+                oriented(k, is_flipped),
+                target.pairs(),
+                target.constant(),
+                allows_equal(rel, k),
+            )
+        }
+    }
+}
+
+/// The first fault of a part that is to show `0 < 0`.
+pub fn never_fault(rows: &[Row], part: &Part) -> Option<CheckFault>
+    requires few { length rows.now ≤ 128 }
+    ensures { result ≡ spec.check_fault rows.now spec.never part.now }
+{
+    match weights_fault(rows, part) {
+        Some(fault) => Some(fault),
+        None => sum_fault(rows, part.multipliers(), part.k(), &[], 0, false),
+    }
 }

@@ -2,6 +2,7 @@
 //! multipliers that are given. The sums have 128 bits, so that nothing wraps, and a check takes no memory.
 #![tactic(auto)]
 
+mod answers;
 mod cert;
 mod check;
 mod fault;
@@ -9,6 +10,7 @@ mod part;
 mod sum;
 mod walk;
 
+pub use answers::{shown, shown_false};
 pub use cert::Cert;
 pub use fault::CheckFault;
 pub use part::Part;

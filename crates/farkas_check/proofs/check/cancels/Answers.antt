@@ -1,4 +1,4 @@
-use Rattle.std.proofs.Common.{◌≡◌, ◌≤◌, ◌+◌, ◌∙◌, ap, sym, subst, arith, true, false, to_z, of_z}
+use Rattle.std.proofs.Common.{◌∙◌, ap, sym, arith, to_z, of_z}
 use Rattle.std.proofs.lemmas.Int.{to_z-of_z}
 use mir.Syntax.{w64}
 use Rattle.farkas_check.specs.Checks.{cancels}

@@ -1,4 +1,4 @@
-use Rattle.std.proofs.Common.{sym, ◌∙◌, ap, subst, to_z, of_z, ◌≤◌}
+use Rattle.std.proofs.Common.{sym, ◌∙◌, ap, subst, ◌≤◌}
 use Rattle.std.specs.Prelude.{unsigned_abs}
 use Rattle.linear_model.specs.Normal.{limit}
 use Rattle.linear_model.specs.Forms.{coefficient}

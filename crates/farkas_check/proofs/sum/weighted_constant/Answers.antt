@@ -1,6 +1,5 @@
 use Rattle.std.proofs.Common.{◌∙◌, ap, get_or, pos, to_z, of_z, arith}
 use mir.Syntax.{w64, w128}
-use Rattle.linear_model.specs.Forms.{coefficient}
 use Rattle.farkas_check.proofs.Sums.{same_64, weight_at, weight_same, turn, turn_bound, constant_at}
 use Rattle.farkas_check.proofs.sum.weighted_constant.Goals as goal
 

@@ -1,4 +1,4 @@
-use Rattle.std.proofs.Common.{refl, ap}
+use Rattle.std.proofs.Common.{ap}
 use Rattle.farkas_check.specs.Walk.{next_variable, least_in_rows}
 use Rattle.farkas_check.proofs.walk.next_variable.Goals as goal
 
