@@ -1,0 +1,11 @@
+//! Tests of the elimination of a variable, through its public calls. There is no other code here: a test in the
+//! crate that it tests has that whole crate proved once more.
+#![tactic(auto)]
+
+#[cfg(test)]
+mod cases;
+#[cfg(test)]
+mod counts;
+
+/// Nothing: a library needs an item.
+pub fn nothing() {}
