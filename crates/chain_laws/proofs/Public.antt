@@ -1,18 +1,20 @@
 -- The laws of the chain as the contracts say them.
-use Rattle.std.proofs.Common.{◌≡◌, ◌<◌, ℕ, List, [], length, false}
+use Rattle.std.proofs.Common.{suc, ◌≡◌, ◌<◌, ℕ, List, [], length, false}
 use Rattle.std.specs.Prelude.{All, Option, Some, None}
 use Rattle.std.proofs.lemmas.List.Elements.{All-from_recursion, All-contains}
 use Rattle.clp_model.proofs.Membership.{Among, from_among, all_among}
+use Rattle.clp_model.specs.Clauses.{Row}
 use Rattle.linear_model.specs.Forms.{IsRising}
 use Rattle.linear_model.specs.Elimination.{has}
 use Rattle.linear_model.specs.Items.{Item, turn, kept}
-use Rattle.linear_model.specs.Chain.{least_variable}
+use Rattle.linear_model.specs.Chain.{least_variable, begun, begun_with}
 use Rattle.linear_laws.proofs.Bounded.{zero_has_not}
-use Rattle.chain_laws.specs.Laws.{RisingItems, IsLeast, HaveMultipliers, Reaches, OutcomeIsExact, TurnsSuffice, GoesByTurns, VariablesRise}
+use Rattle.chain_laws.specs.Laws.{RisingRows, RisingItems, IsLeast, HaveMultipliers, Reaches, OutcomeIsExact, TurnsSuffice, GoesByTurns, VariablesRise}
 use Rattle.chain_laws.proofs.Turns.{turn_rising, turn_multipliers, kept_from}
 use Rattle.chain_laws.proofs.Variables.{Risings, Least, least, least_rises}
 use Rattle.chain_laws.proofs.Outcomes.{outcome_is_exact, turns_suffice, goes_by_turns}
 use Rattle.chain_laws.proofs.Reaching.{rising_along, multipliers_along}
+use Rattle.chain_laws.proofs.Starting.{begun_rises, begun_with_rises, begun_count, begun_with_count}
 
 to_all : (P : Item → Type 0) (items : List Item) → ((i : Item) → Among i items → P i) → All P items
 to_all P items h = All-from_recursion P items (all_among P items h)
@@ -65,3 +67,16 @@ kept_keeps_count n items h = to_all (λ (i : Item). length i.m ≡ n) (kept item
 
 pub chain_keeps_count : (n : ℕ) (items later : List Item) → Reaches items later → HaveMultipliers n items → HaveMultipliers n later
 chain_keeps_count n items later r h = to_all (λ (i : Item). length i.m ≡ n) later (multipliers_along n r (from_all (λ (i : Item). length i.m ≡ n) items h))
+
+-- ---- at the start
+pub start_rises : (rows : List Row) → RisingRows rows → RisingItems (begun rows)
+start_rises rows h = to_all Rises (begun rows) (begun_rises rows h)
+
+pub start_with_rises : (rows : List Row) (target : Row) → RisingRows rows → IsRising target.pairs → RisingItems (begun_with rows target)
+start_with_rises rows target h t = to_all Rises (begun_with rows target) (begun_with_rises rows target h t)
+
+pub start_counts : (rows : List Row) → HaveMultipliers (length rows) (begun rows)
+start_counts rows = to_all (λ (i : Item). length i.m ≡ length rows) (begun rows) (begun_count rows)
+
+pub start_with_counts : (rows : List Row) (target : Row) → HaveMultipliers (suc (length rows)) (begun_with rows target)
+start_with_counts rows target = to_all (λ (i : Item). length i.m ≡ suc (length rows)) (begun_with rows target) (begun_with_count rows target)

@@ -102,6 +102,26 @@ with_negated : (rows : List Row) (target : Row) → RisingRows rows → IsRising
 with_negated rows target h t r first = rising_opposite target.pairs t
 with_negated rows target h t r (next a) = rows_rise rows h r a
 
+pub begun_rises : (rows : List Row) → RisingRows rows → Risings (begun rows)
+begun_rises rows h = begun_rising rows (rows_rise rows h)
+
+pub begun_with_rises : (rows : List Row) (target : Row) → RisingRows rows → IsRising target.pairs → Risings (begun_with rows target)
+begun_with_rises rows target h t i a = begun_rising (negated target ∷ rows) (with_negated rows target h t) i (in_first_last (begun (negated target ∷ rows)) i a)
+
+-- ---- each item has a multiplier for each row
+zeros : (rs : List Row) → length (map (λ _. pos 0) rs) ≡ length rs
+zeros [] = refl
+zeros (r ∷ rs) = ap suc (zeros rs)
+
+pub begun_count : (rows : List Row) (i : Item) → Among i (begun rows) → length i.m ≡ length rows
+begun_count [] i a = elim a [ ]
+begun_count (r ∷ rs) i first = ap suc (zeros rs)
+begun_count (r ∷ rs) i (next a) =
+    mapped_out (λ (j : Item). record { row = j.row; m = pos 0 ∷ j.m }) (begun rs) (λ (j : Item). length j.m ≡ suc (length rs)) (λ j b. ap suc (begun_count rs j b)) i a
+
+pub begun_with_count : (rows : List Row) (target : Row) (i : Item) → Among i (begun_with rows target) → length i.m ≡ suc (length rows)
+begun_with_count rows target i a = begun_count (negated target ∷ rows) i (in_first_last (begun (negated target ∷ rows)) i a)
+
 -- ---- the laws
 found_sum : (rows : List Row) (items : List Item) (i : Item) → ((j : Item) → Among j items → IsSum rows j) → chain items ≡ Shown i → ShowsFalse rows (record { k = pos 0; m = signed i })
 found_sum rows items i h e =
@@ -136,13 +156,13 @@ target_count rows target i n e = allowed_length rows (part_of (signed i)).m (tar
 
 pub satisfiable : (rows : List Row) → RisingRows rows → chain (begun rows) ≡ NotEntailed → (u : Valuation) × All (RowHolds u) rows
 satisfiable rows h e =
-    let s = nothing_found (begun rows) (begun_rising rows (rows_rise rows h)) e in
+    let s = nothing_found (begun rows) (begun_rises rows h) e in
     (s.0, All-from_recursion (RowHolds s.0) rows (all_among (RowHolds s.0) rows (begun_rows rows (RowHolds s.0) s.1)))
 
 pub not_entailed : (rows : List Row) (target : Row) → ¬ (target.rel ≡ Eq) → RisingRows rows → IsRising target.pairs → chain (begun_with rows target) ≡ NotEntailed → ¬ Entails rows target
 not_entailed rows target n g t e h =
     let all = negated target ∷ rows in
-    let s = nothing_found (begun_with rows target) (λ i a. begun_rising all (with_negated rows target g t) i (in_first_last (begun all) i a)) e in
+    let s = nothing_found (begun_with rows target) (begun_with_rises rows target g t) e in
     let hold = begun_rows all (RowHolds s.0) (λ i a. s.1 i (out_first_last (begun all) i a)) in
     (negated_holds s.0 target n).0 (hold (negated target) first)
     (h s.0 (All-from_recursion (RowHolds s.0) rows (all_among (RowHolds s.0) rows (λ r a. hold r (next a)))))

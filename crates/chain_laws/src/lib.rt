@@ -2,7 +2,7 @@
 //! past a limit only where a turn passes it. There is no code here: each law is the contract of an empty function.
 #![tactic(auto)]
 
-ghost use Rattle.std.specs.Prelude.{ℕ, List, All, length, pos, ◌≡◌};
+ghost use Rattle.std.specs.Prelude.{ℕ, suc, List, All, length, pos, ◌≡◌};
 ghost use Rattle.clp_model.specs.Values.{Valuation};
 ghost use Rattle.clp_model.specs.Clauses.{Row, RowHolds};
 ghost use Rattle.clp_model.specs.declared.sort.Rel.TheVariants.{Eq};
@@ -42,8 +42,13 @@ pub fn each_outcome_is_exact()
     ensures goes_by_turns { GoesByTurns }
 {}
 
-/// Along a chain the variables of each row rise, and each item has as many multipliers as at the start.
+/// Along a chain the variables of each row rise, and each item has as many multipliers as at the start, where it has one
+/// for each row and one for the target.
 pub fn items_keep_their_form()
+    ensures start_rises { (rows : List Row) → RisingRows rows → RisingItems (begun rows) }
+    ensures start_with_rises { (rows : List Row) (target : Row) → RisingRows rows → IsRising target.pairs → RisingItems (begun_with rows target) }
+    ensures start_counts { (rows : List Row) → HaveMultipliers (length rows) (begun rows) }
+    ensures start_with_counts { (rows : List Row) (target : Row) → HaveMultipliers (suc (length rows)) (begun_with rows target) }
     ensures turn_rises { (x : ℕ) (items : List Item) → RisingItems items → RisingItems (turn x items) }
     ensures kept_rises { (items : List Item) → RisingItems items → RisingItems (kept items) }
     ensures chain_rises { (items later : List Item) → Reaches items later → RisingItems items → RisingItems later }
