@@ -7,5 +7,7 @@ pub mod Wide
 pub mod Steps
 pub mod Quotients
 pub mod Made
+pub mod Combined
+pub mod Renaming
 pub mod Coefficients
 pub mod Opposites

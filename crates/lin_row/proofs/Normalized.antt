@@ -151,7 +151,7 @@ normal_normal r =
     ap (λ t. divided (divisor_of t (max 1 (row_gcd s))) s) e ∙ (ap (λ n. divided (pos n) s) f ∙ row_by_one s)
 
 -- ---- no quotient is 0
-mul_zero : (z : ℤ) → z *ℤ pos 0 ≡ pos 0
+pub mul_zero : (z : ℤ) → z *ℤ pos 0 ≡ pos 0
 mul_zero z = *ℤ_comm z (pos 0) ∙ zero-*ℤ z
 
 positive_stays : (n : ℕ) → is_zero (pos (suc n)) ≡ false

@@ -34,7 +34,7 @@ within_append (p ∷ ps) qs = by (nat_le (unsigned_abs p.1) limit) (within_appen
     by true ih = ih
     by false ih = refl
 
-both : (a b : Bool) → (a && b) ≡ true → (a ≡ true) × (b ≡ true)
+pub both : (a b : Bool) → (a && b) ≡ true → (a ≡ true) × (b ≡ true)
 both true true e = (refl, refl)
 both true false e = cc
 both false b e = cc
@@ -45,6 +45,9 @@ small_test n h = grind (arith, nat_tests)
 all_within : (ps : List (ℕ × ℤ)) → pairs_within ps ≡ true → AllByRecursion (λ p. unsigned_abs p.1 ≤ limit) ps
 all_within [] e = tt
 all_within (p ∷ ps) e = let b = both (nat_le (unsigned_abs p.1) limit) (pairs_within ps) e in (small_test (unsigned_abs p.1) b.0, all_within ps b.1)
+
+pub all_small : (ps : List (ℕ × ℤ)) → pairs_within ps ≡ true → All (λ p. unsigned_abs p.1 ≤ limit) ps
+all_small ps e = All-from_recursion (λ p. unsigned_abs p.1 ≤ limit) ps (all_within ps e)
 
 -- what the invariant of a row says of its parts
 pub within_pairs : (ps : List (ℕ × ℤ)) (c : ℤ) → (pairs_within ps && nat_le (unsigned_abs c) limit) ≡ true → All (λ p. unsigned_abs p.1 ≤ limit) ps

@@ -8,6 +8,7 @@ mod combine;
 mod euclid;
 mod order;
 mod reduce;
+mod rename;
 mod row;
 mod truth;
 
