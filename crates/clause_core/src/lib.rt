@@ -14,3 +14,4 @@ pub use clause::{Clause, RawClause, clause_size, copy_clause};
 pub use clp_model::{Limit, Pred, SourceClause, Tree};
 pub use fault::ClauseFault;
 pub use form::canonical;
+pub use renaming::sort_in;

@@ -101,9 +101,9 @@ pub(crate) fn renamed_all(
     Ok(all)
 }
 
-/// The sort of a variable, by its number.
-fn sort_in(sorts: &[Sort], number: u32) -> Sort
-    ensures { result ≡ sort_in sorts.now number }
+/// The sort of the variable of this number; numbers count from 1, and one that has no sort there has `Any`.
+pub fn sort_in(sorts: &[Sort], number: u32) -> Sort
+    ensures value { result ≡ sort_in sorts.now number }
 {
     if number == 0 {
         return Sort::Any;

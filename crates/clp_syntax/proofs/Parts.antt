@@ -19,7 +19,7 @@ use Rattle.clause_core.specs.declared.clause.Clause.{Clause}
 use Rattle.clause_core.specs.declared.fault.ClauseFault.{ClauseFault}
 use Rattle.clause_core.specs.Stored.{number_of, clause_of, clause_in, HasSort, AreParts}
 use Rattle.clp_syntax.specs.Sorted.{with_sort, sorted_tree, sorted_trees}
-use Rattle.clp_syntax.specs.WellFormed.{IsNumberOf, IsWellFormed, IsSmallSource}
+use Rattle.clp_syntax.specs.WellFormed.{IsNumber, IsWellFormed, IsSmallSource}
 use Rattle.clp_syntax.proofs.Sorting.{over_more}
 
 mutual
@@ -73,15 +73,15 @@ applications_sorted sorts (t ∷ ts) all =
     All-cons IsApplication (sorted_tree sorts t) (sorted_trees sorts ts)
     (application_sorted sorts t (All-head IsApplication t ts all)) (applications_sorted sorts ts (All-tail IsApplication t ts all))
 
-has_sort : (sorts : List Sort) (n : ℕ) → IsNumberOf (length sorts) n → HasSort sorts (with_sort sorts n)
+has_sort : (sorts : List Sort) (n : ℕ) → IsNumber (length sorts) n → HasSort sorts (with_sort sorts n)
 has_sort sorts n h = record { positive = h.0; within = h.1; sort = refl }
 
-variables_sorted : (sorts : List Sort) (ts : List (Tree ℕ)) → All (IsNumberOf (length sorts)) (variables_in ts) → All (HasSort sorts) (variables_in (sorted_trees sorts ts))
+variables_sorted : (sorts : List Sort) (ts : List (Tree ℕ)) → All (IsNumber (length sorts)) (variables_in ts) → All (HasSort sorts) (variables_in (sorted_trees sorts ts))
 variables_sorted sorts ts all =
     let P : List Variable → Type 0 = All (HasSort sorts) in
     subst P (sym (all_variables_mapped (with_sort sorts) ts))
     (All-map (HasSort sorts) (with_sort sorts) (variables_in ts)
-    (All-weaker (IsNumberOf (length sorts)) (λ n. HasSort sorts (with_sort sorts n)) (has_sort sorts) (variables_in ts) all))
+    (All-weaker (IsNumber (length sorts)) (λ n. HasSort sorts (with_sort sorts n)) (has_sort sorts) (variables_in ts) all))
 
 -- the parts are those of a clause
 pub are_parts : (store : List (Tree Variable)) (head : ℕ) (atoms : List ℕ) (sorts : List Sort) (s : SourceClause)

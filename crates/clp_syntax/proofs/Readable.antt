@@ -23,7 +23,8 @@ use Rattle.clp_model.specs.Trees.{depth, greatest_depth, variables, variables_in
 use Rattle.clp_model.proofs.Trees.{depth_app, depth_var, variables_app, variables_var}
 use Rattle.clp_syntax.specs.Input.{Input, start, anew, at_text, sees, expect, eat, separated, separated_from, numbered, known_or_new, fresh, variable, note, unless, settle, left, refuse}
 use Rattle.clp_syntax.specs.Grammar.{application, term_by, term_with, term, arguments, is_true, misplacement, goal, body, sorts, clause, clauses_from, program, max_open, max_clauses, past_limit}
-use Rattle.clp_syntax.specs.Readable.{HasPlainNames, HavePlainNames, IsPlainAtom, IsNumber, IsReadable, AreReadable}
+use Rattle.clp_syntax.specs.Readable.{HasPlainNames, HavePlainNames, IsPlainAtom, IsReadable, AreReadable}
+use Rattle.clp_syntax.specs.WellFormed.{IsNumber}
 
 -- what was read, if there was no fault
 abbrev IfRead : {A : Type 0} → Outcome Input A → (A → Input → Type 0) → Type 0

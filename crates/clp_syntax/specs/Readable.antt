@@ -1,5 +1,5 @@
 -- What holds of each clause that is read, and which printed clauses are read again.
-use Rattle.std.specs.Prelude.{◌≡◌, ℕ, ◌+◌, ◌<◌, ◌≤◌, false, List, ◌∷◌, length, All}
+use Rattle.std.specs.Prelude.{◌≡◌, ℕ, ◌+◌, ◌≤◌, false, List, ◌∷◌, length, All}
 use Rattle.clp_tokens.specs.Tokens.{IsPlainName}
 use Rattle.clp_model.specs.declared.sort.Sort.TheVariants.{Any}
 use Rattle.clp_model.specs.declared.tree.Tree.{Tree, Var, App', Row_of-Tree, end_of-Tree, more_of-Tree}
@@ -7,6 +7,7 @@ use Rattle.clp_model.specs.declared.clause.SourceClause.{SourceClause}
 use Rattle.clp_model.specs.Clauses.{Clause}
 use Rattle.clp_model.specs.Canonical.{IsCanonical}
 use Rattle.clp_model.specs.Trees.{greatest_depth, variables_in, IsApplication}
+use Rattle.clp_syntax.specs.WellFormed.{IsNumber}
 use Rattle.clp_syntax.specs.Grammar.{max_open, max_clauses, is_true}
 
 -- each name is one that is written without quotes
@@ -24,10 +25,6 @@ pub record IsPlainAtom (t : Tree ℕ) : Type 0 where
   pub application : IsApplication t
   pub names : HasPlainNames t
   pub ordinary : is_true t ≡ false
-
--- a number of a variable, where there are this many
-abbrev pub IsNumber : ℕ → ℕ → Type 0
-IsNumber count n = (0 < n) × (n ≤ count)
 
 -- A clause that was read. A tree of depth n is written with n - 1 brackets open at once.
 pub record IsReadable (c : SourceClause) : Type 0 where

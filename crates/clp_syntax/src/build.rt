@@ -3,14 +3,14 @@
 ghost use Rattle.std.specs.Prelude.{◌≡◌, Some, IfOk, IsErrOf};
 ghost use Rattle.clp_model.specs.declared.limit.Limit.TheVariants.{Shape};
 ghost use Rattle.clp_model.specs.Trees.{size, depth, total_size, greatest_depth};
-ghost use Rattle.clp_model.specs.Clauses.{of_source, sort_in};
+ghost use Rattle.clp_model.specs.Clauses.{of_source};
 ghost use Rattle.clp_model.specs.Canonical.{limit_past};
 ghost use Rattle.term_store.specs.Trees.{HasTree, HaveTrees, IsOver, Keeps};
 ghost use Rattle.clause_core.specs.Stored.{raw_in, IsRaw};
 ghost use Rattle.clp_syntax.specs.Sorted.{sorted_tree, sorted_trees};
 ghost use Rattle.clp_syntax.specs.WellFormed.{IsWellFormed};
 
-use clause_core::{RawClause, SourceClause, Tree};
+use clause_core::{RawClause, SourceClause, Tree, sort_in};
 use smallvec::SmallVec;
 use sqlite_items::Items;
 use std::alloc::Global;
@@ -18,15 +18,6 @@ use term_store::{Sort, Store, Term, TermFault};
 
 /// How many terms lie in the list itself, without memory of their own.
 const INLINE: usize = 8;
-
-fn sort_of(sorts: &[Sort], number: u32) -> Sort
-    ensures { result ≡ sort_in sorts.now number }
-{
-    if number == 0 {
-        return Sort::Any;
-    }
-    sorts.get(number as usize - 1).copied().unwrap_or(Sort::Any)
-}
 
 #[cycle(term_of)]
 #[tactic(auto, using(clp_model::proofs::Trees::mapped_app, clp_model::proofs::Trees::mapped_var, clp_model::proofs::Trees::size_app, clp_model::proofs::Trees::depth_app))]
@@ -36,7 +27,7 @@ fn term_of(alloc: Global, store: &mut Store, sorts: &[Sort], tree: &Tree) -> Res
     ensures large { IsErrOf result TermFault.TooLarge → IsOver (size tree.now) (depth tree.now) }
 {
     match tree {
-        Tree::Var(number) => Ok(store.var(*number, sort_of(sorts, *number))?),
+        Tree::Var(number) => Ok(store.var(*number, sort_in(sorts, *number))?),
         Tree::App(name, args) => {
             let terms = terms_of(alloc, store, sorts, args.as_slice())?;
             store.app(name.as_str(), terms.as_slice())

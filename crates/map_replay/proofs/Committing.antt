@@ -4,10 +4,10 @@ use Rattle.std.specs.Prelude.{Option, Some}
 use Rattle.map_replay.specs.declared.step.Step.{Step}
 use Rattle.map_replay.specs.declared.state.Entry.{Entry as Row}
 use Rattle.map_replay.specs.declared.change.Ready.{Ready}
-use Rattle.map_replay.specs.State.{Entry, State, live_count, is_live, clauses_where}
+use Rattle.map_replay.specs.State.{Entry, State, live_count, is_live, clauses_where, present}
 use Rattle.map_replay.specs.After.{entries_nodes, killed}
 use Rattle.map_replay.specs.Seen.{Trees, Seen, IsSound, AllStored, state_of, entries_in}
-use Rattle.map_replay.specs.Changes.{IsReady, ready_state, present}
+use Rattle.map_replay.specs.Changes.{IsReady, ready_state}
 use Rattle.map_replay.specs.Rows.{rows_killed, AllIds}
 use Rattle.map_replay.proofs.Killing.{killed_in, stored_killed, length_killed, killed_fewer, live_ids}
 use Rattle.map_replay.proofs.Counting.{live_after, within, all_present, new_live, present_length, as_many_nodes, in_append, stored_append, length_in}

@@ -10,10 +10,10 @@ use Rattle.clause_core.specs.Stored.{clause_in}
 use Rattle.map_replay.specs.declared.state.Entry.{Entry as Row}
 use Rattle.map_replay.specs.declared.change.Made.{Made}
 use Rattle.map_replay.specs.declared.change.Change.{Change}
-use Rattle.map_replay.specs.State.{Entry, State, is_live, clauses_where, live_count}
+use Rattle.map_replay.specs.State.{Entry, State, is_live, clauses_where, live_count, present}
 use Rattle.map_replay.specs.After.{state_limit, entries_nodes, killed}
 use Rattle.map_replay.specs.Seen.{Trees, entry_in, entries_in, AllStored}
-use Rattle.map_replay.specs.Changes.{made_entries, present, AllNew, AreLive, IsChange, changed}
+use Rattle.map_replay.specs.Changes.{made_entries, AllNew, AreLive, IsChange, changed}
 use Rattle.map_replay.specs.Rows.{nodes_of_made}
 use Rattle.map_replay.proofs.Killing.{killed_fewer}
 

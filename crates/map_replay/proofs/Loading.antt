@@ -6,7 +6,8 @@ use Rattle.clause_core.specs.declared.clause.Clause.{Clause as Kept}
 use Rattle.clause_core.specs.Stored.{clause_in}
 use Rattle.map_replay.specs.declared.step.Step.{Step}
 use Rattle.map_replay.specs.declared.state.Entry.{Entry as Row}
-use Rattle.map_replay.specs.State.{is_live, clauses_where, loaded_entry, start_state, total_nodes}
+use Rattle.clp_syntax.specs.Load.{sizes_of}
+use Rattle.map_replay.specs.State.{is_live, clauses_where, loaded_entry, start_state, present}
 use Rattle.clp_syntax.specs.Loaded.{clauses_in, AreStored}
 use Rattle.map_replay.specs.Seen.{Trees, Seen, IsSound, AllStored, state_of, entries_in}
 use Rattle.map_replay.specs.Rows.{loaded_row, count_of}
@@ -37,7 +38,7 @@ pub record IsBegun (store : Trees) (cs : List (Option Kept)) (preds : List Pred)
   pub initials : seen.initials ≡ preds
   pub history : seen.history ≡ []
   pub live : seen.live ≡ count_of cs
-  pub nodes : seen.nodes ≡ total_nodes (clauses_in store cs)
+  pub nodes : seen.nodes ≡ sizes_of (present (clauses_in store cs))
 
 module _ (store : Trees) (cs : List (Option Kept)) (preds : List Pred) (seen : Seen) (is : IsBegun store cs preds seen) where
   begun_entries : entries_in seen.store seen.entries ≡ map (option_map loaded_entry) (clauses_in store cs)
@@ -46,7 +47,7 @@ module _ (store : Trees) (cs : List (Option Kept)) (preds : List Pred) (seen : S
   pub begun_state : state_of seen ≡ start_state (clauses_in store cs) preds
   begun_state = let a = begun_entries in let b = is.initials in let d = is.history in let e = is.nodes in cc
 
-  pub begun_sound : AreStored store cs → length cs ≤ 4096 → count_of cs ≤ 4096 → total_nodes (clauses_in store cs) ≤ 8388608 → IsSound seen
+  pub begun_sound : AreStored store cs → length cs ≤ 4096 → count_of cs ≤ 4096 → sizes_of (present (clauses_in store cs)) ≤ 8388608 → IsSound seen
   begun_sound stored few count nodes =
       let P : List (Option Row) → Type 0 = AllStored seen.store in
       let Q : Trees → Type 0 = λ st. AllStored st (map loaded_row cs) in

@@ -10,7 +10,7 @@ use Rattle.term_store.specs.Trees.{tree_at, trees_at, AreIn, HasTree, HaveTrees,
 use Rattle.term_store.proofs.Keeping.{has_tree_kept}
 use Rattle.clause_core.specs.declared.clause.Clause.{Clause as Kept}
 use Rattle.clause_core.specs.Stored.{number_of, clause_of, clause_in, HasSort, AreParts}
-use Rattle.map_replay.specs.After.{without_place}
+use Rattle.clp_meaning.specs.Laws.{without_atom}
 
 pub in_removed : (store : List (Tree Variable)) (ts : List ℕ) (i : ℕ) → AreIn store ts → AreIn store (remove ts i)
 in_removed store [] zero h = tt
@@ -60,7 +60,7 @@ module _ (store mid new : List (Tree Variable)) (clause : Kept) (place head : �
   same_trees : trees_at new (head ∷ atoms) ≡ tree_at store clause.head ∷ remove (trees_at store clause.atoms) place
   same_trees = let a = (has_tree_kept mid new head (tree_at store clause.head) after has).is in let b = have.are ∙ trees_removed store clause.atoms place in cc
 
-  pub removed_is : clause_of new head atoms clause.sorts ≡ without_place (clause_in store clause) place
+  pub removed_is : clause_of new head atoms clause.sorts ≡ without_atom (clause_in store clause) place
   removed_is =
       let a = ap (mapped number_of) (has_tree_kept mid new head (tree_at store clause.head) after has).is in
       let b = ap (mapped_all number_of) (have.are ∙ trees_removed store clause.atoms place) ∙ mapped_removed number_of (trees_at store clause.atoms) place in

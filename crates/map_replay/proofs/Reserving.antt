@@ -6,10 +6,10 @@ use Rattle.map_replay.specs.declared.step.Step.{Step}
 use Rattle.map_replay.specs.declared.state.Entry.{Entry as Row}
 use Rattle.map_replay.specs.declared.change.Change.{Change}
 use Rattle.map_replay.specs.declared.change.Ready.{Ready}
-use Rattle.map_replay.specs.State.{Entry, live_count}
+use Rattle.map_replay.specs.State.{Entry, live_count, present}
 use Rattle.map_replay.specs.After.{entries_nodes, state_limit, replaced}
 use Rattle.map_replay.specs.Seen.{Trees, Seen, IsSound, AllStored, state_of, entries_in}
-use Rattle.map_replay.specs.Changes.{IsChange, IsReady, changed, ready_state, present, made_entries, AreLive}
+use Rattle.map_replay.specs.Changes.{IsChange, IsReady, changed, ready_state, made_entries, AreLive}
 use Rattle.map_replay.specs.Rows.{AreMade, nodes_of_made}
 use Rattle.map_replay.proofs.KeptClauses.{entries_kept, all_stored_kept}
 use Rattle.map_replay.proofs.Counting.{live_changed, few_dead, within, present_some, made_nodes}

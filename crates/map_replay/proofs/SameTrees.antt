@@ -8,7 +8,7 @@ use Rattle.clp_model.specs.declared.sort.Sort.{Sort}
 use Rattle.clp_model.specs.declared.tree.Variable.{Variable}
 use Rattle.clp_model.specs.declared.tree.Tree.{Tree, Var, App', Row_of-Tree, end_of-Tree, more_of-Tree}
 use Rattle.clp_model.specs.Trees.{mapped, variables, variables_in}
-use Rattle.clp_model.specs.Clauses.{sort_in}
+use Rattle.clp_syntax.specs.Sorted.{with_sort}
 use Rattle.clp_model.proofs.Membership.{Among, all_among, from_among, among_front, among_back}
 use Rattle.clp_model.proofs.RenamedTrees.{mapped_twice, mapped_to_itself}
 use Rattle.term_store.specs.Trees.{tree_at, trees_at, AreIn}
@@ -28,19 +28,16 @@ mutual
   same_all_self (more_of-Tree t ts) = let a = same_self t in let b = same_all_self ts in rw (a, b) refl
 
 -- the variable of this number and its sort
-abbrev sorted_variable : List Sort → ℕ → Variable
-sorted_variable sorts n = record { number = n; sort = sort_in sorts n }
-
-has_itself : (sorts : List Sort) (v : Variable) → HasSort sorts v → sorted_variable sorts v.number ≡ v
+has_itself : (sorts : List Sort) (v : Variable) → HasSort sorts v → with_sort sorts v.number ≡ v
 has_itself sorts v h = let f : Sort → Variable = λ s. record { number = v.number; sort = s } in ap f h.sort
 
 -- a tree whose variables have their sorts is known by its numbers
-numbers_tell : (sorts : List Sort) (t : Tree Variable) → All (HasSort sorts) (variables t) → mapped (sorted_variable sorts) (mapped number_of t) ≡ t
+numbers_tell : (sorts : List Sort) (t : Tree Variable) → All (HasSort sorts) (variables t) → mapped (with_sort sorts) (mapped number_of t) ≡ t
 numbers_tell sorts t h =
-    mapped_twice number_of (sorted_variable sorts) (λ v. v) t (λ v among. has_itself sorts v (All-contains (HasSort sorts) (variables t) v h (from_among among))) ∙ mapped_to_itself (λ v. v) t (λ v among. refl)
+    mapped_twice number_of (with_sort sorts) (λ v. v) t (λ v among. has_itself sorts v (All-contains (HasSort sorts) (variables t) v h (from_among among))) ∙ mapped_to_itself (λ v. v) t (λ v among. refl)
 
 same_numbers : (sorts : List Sort) (t u : Tree Variable) → All (HasSort sorts) (variables t) → All (HasSort sorts) (variables u) → mapped number_of t ≡ mapped number_of u → t ≡ u
-same_numbers sorts t u h k e = sym (numbers_tell sorts t h) ∙ ap (mapped (sorted_variable sorts)) e ∙ numbers_tell sorts u k
+same_numbers sorts t u h k e = sym (numbers_tell sorts t h) ∙ ap (mapped (with_sort sorts)) e ∙ numbers_tell sorts u k
 
 -- the test on numbered trees tells whether the trees are equal
 decided : (r s : Bool) (A : Type 0) → (IsTrue r ↔ A) → (A → s ≡ true) → (s ≡ true → A) → r ≡ s

@@ -1,5 +1,5 @@
 -- The start state of a loaded program, and that loading keeps what is provable.
-use Rattle.std.proofs.Common.{◌≡◌, ◌+◌, ◌≤◌, List, [], ◌∷◌, length, refl, sym, ◌∙◌, ap, subst, map, arith, ◌↔◌}
+use Rattle.std.proofs.Common.{◌≡◌, ◌≤◌, List, [], ◌∷◌, length, refl, sym, ◌∙◌, ap, subst, map, arith, ◌↔◌}
 use Rattle.std.specs.Prelude.{Option, Some, All, Ok, option_map}
 use Rattle.std.proofs.lemmas.List.{length-map}
 use Rattle.std.proofs.lemmas.List.Elements.{All-contains}
@@ -13,7 +13,6 @@ use Rattle.clause_core.specs.declared.clause.Clause.{Clause as Kept}
 use Rattle.clause_core.specs.Stored.{clause_in}
 use Rattle.clp_syntax.specs.Loaded.{clauses_in}
 use Rattle.clp_model.specs.Proof.{Provable}
-use Rattle.clp_model.specs.Canonical.{clause_size}
 use Rattle.clp_syntax.specs.Load.{Program, sizes_of, load}
 use Rattle.clp_syntax.proofs.LoadedPrograms as loading
 use Rattle.clp_syntax.proofs.LoadedPrograms.{Made, IsLoaded, there, back, length_made}
@@ -22,22 +21,22 @@ use Rattle.clp_model.proofs.Membership.{to_among, from_among}
 use Rattle.clp_model.proofs.CanonicalForms.{new_clause_is_canonical}
 use Rattle.clp_meaning.proofs.Renaming.{canonical_form_keeps_instances}
 use Rattle.clp_meaning.proofs.Instances.{same_instances_keep_provability}
-use Rattle.map_replay.specs.State.{live_clauses, total_nodes, start_state}
+use Rattle.map_replay.specs.State.{live_clauses, present, start_state}
 
 -- ---- the start state of a loaded program
 live_loaded : (cs : List Clause) (ps : List Pred) → live_clauses (start_state (map Some cs) ps) ≡ cs
 live_loaded [] ps = refl
 live_loaded (c ∷ cs) ps = ap (λ ds. c ∷ ds) (live_loaded cs ps)
 
-nodes_loaded : (cs : List Clause) → total_nodes (map Some cs) ≡ sizes_of cs
-nodes_loaded [] = refl
-nodes_loaded (c ∷ cs) = ap (λ n. clause_size c + n) (nodes_loaded cs)
+all_loaded : (cs : List Clause) → present (map Some cs) ≡ cs
+all_loaded [] = refl
+all_loaded (c ∷ cs) = ap (λ ds. c ∷ ds) (all_loaded cs)
 
 pub start_live : (source : List Clause) (p : Program) (l : IsLoaded source p) → live_clauses (start_state p.clauses p.predicates) ≡ l.clauses
 start_live source p l = ap (λ cs. live_clauses (start_state cs p.predicates)) l.is ∙ live_loaded l.clauses p.predicates
 
 pub start_nodes : (source : List Clause) (p : Program) (l : IsLoaded source p) → (start_state p.clauses p.predicates).nodes ≡ sizes_of l.clauses
-start_nodes source p l = ap total_nodes l.is ∙ nodes_loaded l.clauses
+start_nodes source p l = ap sizes_of (ap present l.is ∙ all_loaded l.clauses)
 
 -- a program and the clauses that were made of it prove the same
 pub made_proves_the_same : (source clauses : List Clause) → Made source clauses → All HasNoConstraint source → (a : GroundAtom) → Provable clauses a ↔ Provable source a
@@ -59,7 +58,7 @@ loaded_places source p h =
     let l = loading.loaded source p h in
     ap length l.is ∙ (length-map l.clauses Some ∙ length_made l.made)
 
-pub loaded_nodes : (source : List Clause) (p : Program) → load source ≡ Ok p → total_nodes p.clauses ≤ 8388608
+pub loaded_nodes : (source : List Clause) (p : Program) → load source ≡ Ok p → sizes_of (present p.clauses) ≤ 8388608
 loaded_nodes source p h =
     let l = loading.loaded source p h in
     let nodes = start_nodes source p l in

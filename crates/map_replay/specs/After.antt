@@ -1,10 +1,12 @@
 -- What a step makes of a state, and what a script makes of it.
-use Rattle.std.specs.Prelude.{ℕ, zero, suc, ◌+◌, ◌-◌, List, [], ◌∷◌, ◌++◌, map, remove, slice_index_or, length, Bool, true, false, not, ◌&&◌, nat_eq, nat_lt, nat_le, if◌then◌else◌, Option, Some, None, Result, Ok, Err}
+use Rattle.std.specs.Prelude.{ℕ, zero, suc, ◌+◌, ◌-◌, List, [], ◌∷◌, ◌++◌, map, slice_index_or, length, Bool, true, false, not, ◌&&◌, nat_eq, nat_lt, nat_le, if◌then◌else◌, Option, Some, None, Result, Ok, Err}
 use Rattle.clp_model.specs.declared.tree.Tree.{Tree, Var}
 use Rattle.clp_model.specs.declared.limit.Limit.{Limit}
 use Rattle.clp_model.specs.declared.limit.Limit.TheVariants.{Clauses, Nodes, Steps}
 use Rattle.clp_model.specs.Clauses.{Clause}
-use Rattle.clp_model.specs.Canonical.{new_clause, clause_size}
+use Rattle.clp_model.specs.Canonical.{new_clause}
+use Rattle.clp_meaning.specs.Laws.{without_atom}
+use Rattle.clp_syntax.specs.Load.{sizes_of}
 use Rattle.map_replay.specs.declared.step.Step.{Step}
 use Rattle.map_replay.specs.declared.step.Step.TheVariants.{Merge}
 use Rattle.map_replay.specs.declared.refusal.Refusal.{Refusal}
@@ -59,8 +61,7 @@ killed entries (id ∷ ids) = killed (changed_at dead_entry entries (id - 1)) id
 
 -- the sizes of the clauses of these entries together
 abbrev pub entries_nodes : List Entry → ℕ
-entries_nodes [] = 0
-entries_nodes (e ∷ es) = clause_size e.clause + entries_nodes es
+entries_nodes entries = sizes_of (map (λ e. e.clause) entries)
 
 -- the dead are no longer live, the new entries take the next free ids, and the step is put last
 abbrev pub replaced : State → List ℕ → List Entry → Step → State
@@ -116,13 +117,9 @@ first_broken atoms first second =
     else (if not (same_tree (atom_of atoms first) (atom_of atoms second)) then Some (NotEqualAtoms first second)
     else None)))
 
--- the clause without the atom at this place, counted from 0
-abbrev pub without_place : Clause → ℕ → Clause
-without_place c place = record c { body = remove c.body place }
-
 -- the new clause of a merge: the second atom is gone, and the mark stays
 abbrev pub merged : Entry → ℕ → ℕ → Draft
-merged e id second = record { clause = without_place e.clause (second - 1); mark = e.mark; parents = id ∷ [] }
+merged e id second = record { clause = without_atom e.clause (second - 1); mark = e.mark; parents = id ∷ [] }
 
 -- what follows, unless a condition is broken
 abbrev pub unless_broken : Option Refusal → Result State Refusal → Result State Refusal

@@ -6,7 +6,7 @@ use Rattle.map_replay.specs.declared.state.Entry.{Entry as Row}
 use Rattle.map_replay.specs.declared.change.Made.{Made}
 use Rattle.map_replay.specs.declared.change.Change.{Change}
 use Rattle.map_replay.specs.declared.change.Ready.{Ready}
-use Rattle.map_replay.specs.State.{Entry, State, entry_of, if_live}
+use Rattle.map_replay.specs.State.{Entry, State, entry_of, if_live, present}
 use Rattle.map_replay.specs.After.{new_entry, changed_at, dead_entry, replaced, state_limit, entries_nodes}
 use Rattle.map_replay.specs.Seen.{Trees, Seen, state_of, entries_in, AllStored}
 
@@ -42,12 +42,6 @@ pub record IsChange (s : State) (change : Change) : Type 0 where
   pub made : AllMade change.scratch change.made
   pub defines : change.defines ≡ None
   pub steps : length s.steps < 100000
-
--- the entries that aren't empty
-abbrev pub present : List (Option Entry) → List Entry
-present [] = []
-present (None ∷ entries) = present entries
-present (Some e ∷ entries) = e ∷ present entries
 
 -- the state that a reserved change makes
 abbrev pub ready_state : Seen → Ready → State

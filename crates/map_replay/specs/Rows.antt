@@ -1,8 +1,8 @@
 -- Entries, loaded clauses and new clauses as the code has them.
-use Rattle.std.specs.Prelude.{ℕ, suc, ◌+◌, ◌-◌, ◌<◌, ◌≤◌, ◌≡◌, Bool, true, false, List, [], ◌∷◌, map, Option, Some, None}
-use Rattle.clp_model.specs.Canonical.{clause_size}
+use Rattle.std.specs.Prelude.{ℕ, suc, ◌-◌, ◌<◌, ◌≤◌, ◌≡◌, Bool, true, false, List, [], ◌∷◌, map, Option, Some, None}
 use Rattle.clause_core.specs.declared.clause.Clause.{Clause as Kept}
 use Rattle.clause_core.specs.Stored.{clause_in}
+use Rattle.clp_syntax.specs.Load.{sizes_of}
 use Rattle.map_replay.specs.declared.state.Entry.{Entry as Row}
 use Rattle.map_replay.specs.declared.change.Made.{Made}
 use Rattle.map_replay.specs.After.{changed_at}
@@ -38,8 +38,7 @@ count_of (Some c ∷ clauses) = suc (count_of clauses)
 
 -- the sizes of new clauses together
 abbrev pub nodes_of_made : Trees → List Made → ℕ
-nodes_of_made store [] = 0
-nodes_of_made store (m ∷ ms) = clause_size (clause_in store m.clause) + nodes_of_made store ms
+nodes_of_made store made = sizes_of (map (λ m. clause_in store m.clause) made)
 
 -- the rows stand for the entries of new clauses, and are as new entries are
 pub record AreMade (store : Trees) (number : ℕ) (scratch : Trees) (made : List Made) (rows : List (Option Row)) : Type 0 where

@@ -1,8 +1,8 @@
 -- The state of a run.
-use Rattle.std.specs.Prelude.{ℕ, suc, ◌+◌, ◌-◌, Bool, true, List, [], ◌∷◌, ◌++◌, map, length, Option, Some, None, option_map, slice_index_or, nat_eq, nat_lt, if◌then◌else◌}
+use Rattle.std.specs.Prelude.{ℕ, suc, ◌-◌, Bool, true, List, [], ◌∷◌, ◌++◌, map, length, Option, Some, None, option_map, slice_index_or, nat_eq, nat_lt, if◌then◌else◌}
 use Rattle.clp_model.specs.declared.predicate.Pred.{Pred}
 use Rattle.clp_model.specs.Clauses.{Clause}
-use Rattle.clp_model.specs.Canonical.{clause_size}
+use Rattle.clp_syntax.specs.Load.{sizes_of}
 use Rattle.map_replay.specs.declared.step.Step.{Step}
 
 -- a clause with its mark, whether it is live, the number of the step that made it (0 for a loaded
@@ -80,11 +80,11 @@ live_at s id = if_live (entry_at s id)
 abbrev pub loaded_entry : Clause → Entry
 loaded_entry c = record { clause = c; mark = true; live = true; made_at = 0; parents = [] }
 
--- the sizes of these clauses together
-abbrev pub total_nodes : List (Option Clause) → ℕ
-total_nodes [] = 0
-total_nodes (None ∷ clauses) = total_nodes clauses
-total_nodes (Some c ∷ clauses) = clause_size c + total_nodes clauses
+-- the elements at the places that aren't empty
+abbrev pub present : {A : Type 0} → List (Option A) → List A
+present [] = []
+present (None ∷ xs) = present xs
+present (Some x ∷ xs) = x ∷ present xs
 
 -- the state of a loaded program; a source clause without instance leaves its id empty
 abbrev pub start_state : List (Option Clause) → List Pred → State
@@ -94,5 +94,5 @@ start_state clauses predicates =
       definitions = [];
       initials = predicates;
       steps = [];
-      nodes = total_nodes clauses;
+      nodes = sizes_of (present clauses);
     }

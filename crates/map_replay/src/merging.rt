@@ -4,7 +4,8 @@ ghost use Rattle.clause_core.specs.Stored.{clause_in, raw_in, atoms_at, IsStored
 ghost use Rattle.map_replay.specs.declared.refusal.Refusal.TheVariants.{NoMemory};
 ghost use Rattle.map_replay.specs.SameTree.{same_tree};
 ghost use Rattle.map_replay.specs.State.{live_at};
-ghost use Rattle.map_replay.specs.After.{first_broken, in_range, atom_of, within_limits, without_place, merge_after};
+ghost use Rattle.clp_meaning.specs.Laws.{without_atom};
+ghost use Rattle.map_replay.specs.After.{first_broken, in_range, atom_of, within_limits, merge_after};
 ghost use Rattle.map_replay.specs.Seen.{state_of, entry_in};
 ghost use Rattle.map_replay.specs.Changes.{IsChange, changed, replacement};
 
@@ -135,7 +136,7 @@ fn without_atom(
 ) -> Result<RawClause, NoMemory>
     requires stored { IsStored store.now clause.now }
     requires within { place < length clause.now.atoms }
-    ensures is { IfOk result (λ raw. raw_in scratch.new raw ≡ without_place (clause_in store.now clause.now) place) }
+    ensures is { IfOk result (λ raw. raw_in scratch.new raw ≡ without_atom (clause_in store.now clause.now) place) }
     ensures raw { IfOk result (λ raw. IsRaw scratch.new raw) }
 {
     let mut atoms = Items::from_slice(alloc, clause.atoms.as_slice())?;

@@ -2,7 +2,8 @@
 
 ghost use Rattle.std.specs.Prelude.{◌≡◌, ◌⊎◌, ℕ, ◌+◌, ◌-◌, ◌<◌, ◌≤◌, ◌^◌, length, take, vec_len, Ok, Err, OnOk, IfOk, IfErr};
 ghost use Rattle.clp_syntax.specs.Loaded.{program_of, AreStored};
-ghost use Rattle.map_replay.specs.State.{State as S, start_state, total_nodes};
+ghost use Rattle.clp_syntax.specs.Load.{sizes_of};
+ghost use Rattle.map_replay.specs.State.{State as S, start_state, present};
 ghost use Rattle.map_replay.specs.After.{run};
 ghost use Rattle.clp_syntax.specs.Loaded.{clauses_in};
 ghost use Rattle.map_replay.specs.Seen.{state_of};
@@ -23,7 +24,7 @@ use term_store::NoMemory;
 pub fn start(alloc: Global, loaded: Loaded) -> Result<State, NoMemory>
     requires stored { AreStored loaded.store loaded.clauses.items }
     requires places { vec_len loaded.clauses ≤ 4096 }
-    requires nodes { total_nodes (program_of loaded).clauses ≤ 8388608 }
+    requires nodes { sizes_of (present (program_of loaded).clauses) ≤ 8388608 }
     ensures { IfOk result (λ s. state_of s ≡ start_state (program_of loaded).clauses (program_of loaded).predicates) }
 {
     let Loaded {

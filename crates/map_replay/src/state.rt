@@ -3,7 +3,8 @@ ghost use Rattle.std.specs.List.{list_any};
 ghost use Rattle.std.specs.Option.{option_copied};
 ghost use Rattle.clp_model.specs.Predicates.{same_predicate};
 ghost use Rattle.clause_core.specs.Stored.{IsStored};
-ghost use Rattle.map_replay.specs.State.{start_state, total_nodes, entry_at, live_ids_of};
+ghost use Rattle.clp_syntax.specs.Load.{sizes_of};
+ghost use Rattle.map_replay.specs.State.{start_state, present, entry_at, live_ids_of};
 ghost use Rattle.map_replay.specs.After.{state_limit, changed_at};
 ghost use Rattle.clp_syntax.specs.Loaded.{clauses_in, AreStored};
 ghost use Rattle.map_replay.specs.Seen.{state_of, entry_in};
@@ -74,7 +75,7 @@ impl State {
     ) -> Result<State, NoMemory>
         requires stored { AreStored store clauses.items }
         requires places { vec_len clauses ≤ 4096 }
-        requires nodes { total_nodes (clauses_in store clauses.items) ≤ 8388608 }
+        requires nodes { sizes_of (present (clauses_in store clauses.items)) ≤ 8388608 }
         ensures { IfOk result (λ s. state_of s ≡ start_state (clauses_in store clauses.items) preds) }
     {
         let live = present_count(clauses.as_slice());
@@ -278,7 +279,7 @@ fn present_count(clauses: &[Option<Clause>]) -> u32
 fn total_size(store: &Store, clauses: &[Option<Clause>]) -> u32
     requires stored { AreStored store.now clauses.now }
     requires few { length clauses.now ≤ 4096 }
-    ensures { result ≡ total_nodes (clauses_in store.now clauses.now) }
+    ensures { result ≡ sizes_of (present (clauses_in store.now clauses.now)) }
 {
     let mut total = 0;
     for clause in clauses {

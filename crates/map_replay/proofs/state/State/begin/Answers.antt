@@ -2,7 +2,8 @@ use Rattle.std.proofs.Common.{refl, ap, ◌∙◌, ◌-◌, List, arith, vec_len
 use Rattle.std.specs.Prelude.{vec_capacity}
 use Rattle.clause_core.specs.declared.clause.Clause.{Clause}
 use Rattle.map_replay.specs.Rows.{count_of}
-use Rattle.map_replay.specs.State.{total_nodes}
+use Rattle.clp_syntax.specs.Load.{sizes_of}
+use Rattle.map_replay.specs.State.{present}
 use Rattle.clp_syntax.specs.Loaded.{clauses_in}
 use Rattle.map_replay.specs.Seen.{Seen}
 use Rattle.map_replay.proofs.Loading.{begun_state, begun_sound}
@@ -11,7 +12,7 @@ use Rattle.map_replay.proofs.state.State.begin.Goals as goal
 pub invariant_of-result : goal.invariant_of-result
 invariant_of-result c =
     let count = ap count_of c.as_slice.ensures.value in
-    let nodes = ap (λ (cs : List (Option Clause)). total_nodes (clauses_in c.args.store cs)) c.as_slice-2.ensures.value in
+    let nodes = ap (λ (cs : List (Option Clause)). sizes_of (present (clauses_in c.args.store cs))) c.as_slice-2.ensures.value in
     begun_sound c.args.store c.args.clauses.items c.args.preds _
     (record { store_is = refl; entries = c.in_ok-entries.ensures; initials = refl; history = c.new.ensures.items; live = c.present_count-live.ensures.value ∙ count; nodes = c.total_size-nodes.ensures ∙ nodes })
     c.requires.stored (omega (arith, c.requires.places, c.args.clauses.ok.0)) (omega (arith, c.present_count-live.ensures.value, c.present_count-live.ensures.few, count)) c.requires.nodes
@@ -19,7 +20,7 @@ invariant_of-result c =
 pub returns : goal.returns
 returns c =
     let count = ap count_of c.as_slice.ensures.value in
-    let nodes = ap (λ (cs : List (Option Clause)). total_nodes (clauses_in c.args.store cs)) c.as_slice-2.ensures.value in
+    let nodes = ap (λ (cs : List (Option Clause)). sizes_of (present (clauses_in c.args.store cs))) c.as_slice-2.ensures.value in
     let seen : Seen =
     record {
       store = c.args.store;
