@@ -1,16 +1,12 @@
 -- What the forms in memory hold, and at which calls they fail.
-use Rattle.std.specs.Prelude.{ℕ, ◌+◌, ◌-◌, ◌^◌, ◌==◌, min, List, map, string_bytes, String, Vec, Bool, ◌||◌}
+use Rattle.std.specs.Prelude.{ℕ, ◌==◌, List, map, string_bytes, String, Vec, Bool, ◌||◌}
 use Rattle.std.specs.List.{list_any}
 use Rattle.std.specs.Global.{Global}
-use Rattle.map_main.specs.Outside.{Files}
+use Rattle.map_main.specs.Outside.{Files, raised}
 
 -- the files as names and bytes
 abbrev pub files_of : List (String Global × Vec ℕ Global) → Files
 files_of files = map (λ f. (string_bytes f.0, f.1.items)) files
-
--- a counter after one more, which stays at its last value
-abbrev pub raised : ℕ → ℕ
-raised count = min (count + 1) (2 ^ 64 - 1)
 
 -- this call is one of those listed
 abbrev pub lists : List ℕ → ℕ → Bool

@@ -1,11 +1,14 @@
 -- What the outside tells, what it takes, and when it may fail.
 use Rattle.std.specs.Prelude.{◌≡◌, ℕ, ◌+◌, ◌-◌, ◌^◌, ◌<◌, ◌≤◌, ◌==◌, min, Bool, false, List, [], ◌∷◌, ◌++◌, length, if◌then◌else◌, Option, Some, None, Result, Ok, Err, IfSome}
 use Rattle.std.specs.Str.{bytes_eq}
-use Rattle.std.specs.Io.KnownBytes.{Consumes, IsAtEnd}
+
+-- a count after one more, which stays at its last value
+abbrev pub raised : ℕ → ℕ
+raised count = min (count + 1) (2 ^ 64 - 1)
 
 -- the count rose, or stands at its last value
 abbrev pub Rose : ℕ → ℕ → Type 0
-Rose before now = min (before + 1) (2 ^ 64 - 1) ≤ now
+Rose before now = raised before ≤ now
 
 -- files, each with its name and its bytes
 abbrev pub Files : Type 0
@@ -44,10 +47,10 @@ TakesPrefix None (Some ys) bytes = ⊥
 TakesPrefix (Some xs) None bytes = ⊥
 TakesPrefix (Some xs) (Some ys) bytes = (piece : List ℕ) × IsPrefixOf piece bytes × (ys ≡ xs ++ piece)
 
--- the bytes are all that was left of some file, which was read to its end
-abbrev pub IsReadWhole : {F : Type 0} → (F → Option (List ℕ)) → List ℕ → Type 0
-IsReadWhole {F} remaining bytes = (before after : F) × Consumes (remaining before) (remaining after) bytes × IsAtEnd (remaining after)
+-- where it is told what is left of a reader, these bytes are all of it
+abbrev pub IsAllOf : Option (List ℕ) → List ℕ → Type 0
+IsAllOf left bytes = IfSome left (λ all. bytes ≡ all)
 
--- more than `most` bytes of some file were read
-abbrev pub IsReadPast : {F : Type 0} → (F → Option (List ℕ)) → ℕ → Type 0
-IsReadPast {F} remaining most = (before after : F) × (bytes : List ℕ) × Consumes (remaining before) (remaining after) bytes × (most < length bytes)
+-- where it is told what is left of a reader, it is more than `most` bytes
+abbrev pub IsLongerThan : Option (List ℕ) → ℕ → Type 0
+IsLongerThan left most = IfSome left (λ all. most < length all)

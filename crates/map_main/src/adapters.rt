@@ -1,9 +1,9 @@
 //! The outside over real files, standard input and standard output. It tells no content.
 
-ghost use Rattle.std.specs.Prelude.{◌≡◌, ◌≢◌, ◌<◌, ◌≤◌, ◌↔◌, false, [], None, Ok, Err, IfOk, OnOk, OnErr, length, take, string_bytes, vec_len};
+ghost use Rattle.std.specs.Prelude.{◌≡◌, ◌≢◌, ◌<◌, ◌≤◌, ◌↔◌, false, [], None, Ok, Err, IfOk, IfErr, OnOk, OnErr, length, take, string_bytes, vec_len};
 ghost use Rattle.std.specs.IoError.{error_kind};
 ghost use Rattle.std.specs.Io.KnownBytes.{Appends, Consumes, IsAtEnd, Keeps};
-ghost use Rattle.map_main.specs.Outside.{IsReadPast, IsReadWhole, Rose, Tells, TellsLonger, tells_end};
+ghost use Rattle.map_main.specs.Outside.{IsAllOf, IsLongerThan, Rose, Tells, TellsLonger, raised, tells_end};
 
 use super::outside::{Loading, Shelf, ShelfFault, Sink, SinkFault, Source, SourceFault};
 use std::fs;
@@ -32,6 +32,28 @@ impl<'a, R: Files + AllocGlobal> FileShelf<'a, R> {
     }
 }
 
+impl<R: AllocGlobal> FileShelf<'_, R> {
+    /// Answers this. A load that has failed is counted once, and its name is kept.
+    fn counted(
+        &mut self,
+        name: String,
+        answer: Result<Loading, ShelfFault>,
+    ) -> Result<Loading, ShelfFault>
+        ensures same { result ≡ answer }
+        ensures counted { answer ≡ Err ShelfFault.Failed → (self.new.faults ≡ raised self.old.faults)
+            × (string_bytes self.new.failed ≡ string_bytes name) }
+        ensures quiet { answer ≢ Err ShelfFault.Failed → (self.new.faults ≡ self.old.faults)
+            × (string_bytes self.new.failed ≡ string_bytes self.old.failed) }
+        ensures later { self.old.faults ≤ self.new.faults }
+    {
+        if answer == Err(ShelfFault::Failed) {
+            self.faults = self.faults.saturating_add(1);
+            self.failed = name;
+        }
+        answer
+    }
+}
+
 impl<R: Files + AllocGlobal> Shelf for FileShelf<'_, R> {
     ghost files = { λ _. None };
 
@@ -39,15 +61,18 @@ impl<R: Files + AllocGlobal> Shelf for FileShelf<'_, R> {
 
     ghost failed = { λ s. string_bytes s.failed };
 
-    // What it gives is what a file gave up to its end, and a file that is too long gave more than `most` bytes.
+    // What it gives is all of some file as it was opened, and of one that is too long there were more than `most` bytes.
     fn load(&mut self, name: &str, into: &mut Vec<u8>, most: usize) -> Result<Loading, ShelfFault>
         requires { into.old.items ≡ [] }
-        ensures read { result ≡ Ok Loading.Whole → IsReadWhole R.File.remaining into.new.items }
-        ensures past { result ≡ Ok Loading.TooLong → IsReadPast R.File.remaining most }
+        ensures read { result ≡ Ok Loading.Whole →
+            (file : R.File) × IsAllOf (R.File.remaining file) into.new.items }
+        ensures past { result ≡ Ok Loading.TooLong →
+            (file : R.File) × IsLongerThan (R.File.remaining file) most }
         ensures whole { result ≡ Ok Loading.Whole →
             (vec_len into.new ≤ most) × Tells None name.now into.new.items }
         ensures long { result ≡ Ok Loading.TooLong → TellsLonger None name.now most }
         ensures empty { result ≢ Ok Loading.Whole → into.new.items ≡ [] }
+        ensures counted { result ≡ Err ShelfFault.Failed → self.new.faults ≡ raised self.old.faults }
         ensures cause { result ≡ Err ShelfFault.Failed →
             Rose self.old.faults self.new.faults × (string_bytes self.new.failed ≡ name.now) }
         ensures quiet { result ≢ Err ShelfFault.Failed → (self.new.faults ≡ self.old.faults)
@@ -57,50 +82,45 @@ impl<R: Files + AllocGlobal> Shelf for FileShelf<'_, R> {
         let Ok(copy) = String::from_str(self.rt.alloc(), name) else {
             return Err(ShelfFault::NoMemory);
         };
-        match read_file(self.rt, name, into, most) {
-            Ok(loading) => Ok(loading),
-            Err(ShelfFault::NoMemory) => Err(ShelfFault::NoMemory),
-            Err(ShelfFault::Failed) => {
-                self.faults = self.faults.saturating_add(1);
-                self.failed = copy;
-                Err(ShelfFault::Failed)
-            }
-        }
+        let answer = read_opened(fs::open(self.rt, name), into, most);
+        self.counted(copy, answer)
     }
 }
 
-/// Reads the file whole, where it has at most `most` bytes, and else nothing.
-fn read_file<R: Files>(
-    rt: &R,
-    name: &str,
+/// Reads what was opened, once, where it has at most `most` bytes, and else gives nothing.
+fn read_opened<F: Read + Drop>(
+    opened: io::Result<F>,
     into: &mut Vec<u8>,
     most: usize,
 ) -> Result<Loading, ShelfFault>
     requires { into.old.items ≡ [] }
-    ensures read { result ≡ Ok Loading.Whole → IsReadWhole R.File.remaining into.new.items }
-    ensures past { result ≡ Ok Loading.TooLong → IsReadPast R.File.remaining most }
-    ensures whole { result ≡ Ok Loading.Whole → vec_len into.new ≤ most }
+    ensures whole { result ≡ Ok Loading.Whole → (vec_len into.new ≤ most)
+        × ((file : F) × (opened ≡ Ok file) × IsAllOf (F.remaining file) into.new.items) }
+    ensures long { result ≡ Ok Loading.TooLong →
+        (file : F) × (opened ≡ Ok file) × IsLongerThan (F.remaining file) most }
     ensures empty { result ≢ Ok Loading.Whole → into.new.items ≡ [] }
+    ensures absent { IfErr opened (λ e. error_kind e ≢ ErrorKind.OutOfMemory
+        → result ≡ Err ShelfFault.Failed) }
+    ensures no_memory { IfErr opened (λ e. error_kind e ≡ ErrorKind.OutOfMemory
+        → result ≡ Err ShelfFault.NoMemory) }
 {
-    let mut file = match fs::open(rt, name) {
+    let mut file = match opened {
         Ok(file) => file,
-        Err(error) => return Err(shelf_fault(&error)),
+        Err(absent) => return Err(shelf_fault(&absent)),
     };
-    let answer = read_all(&mut file, into, most);
+    let answer = read_whole(&mut file, into, most);
     if answer != Ok(Loading::Whole) {
         into.clear();
     }
     answer
 }
 
-/// Reads to the end, or past `most` bytes.
-fn read_all<F: Read>(file: &mut F, into: &mut Vec<u8>, most: usize) -> Result<Loading, ShelfFault>
+/// Reads from where the file stands to its end, or past `most` bytes.
+fn read_whole<F: Read>(file: &mut F, into: &mut Vec<u8>, most: usize) -> Result<Loading, ShelfFault>
     requires { into.old.items ≡ [] }
-    ensures taken { OnOk result
-        (Consumes (F.remaining file.old) (F.remaining file.new) into.new.items) }
     ensures whole { result ≡ Ok Loading.Whole →
-        (vec_len into.new ≤ most) × IsAtEnd (F.remaining file.new) }
-    ensures long { result ≡ Ok Loading.TooLong → most < vec_len into.new }
+        (vec_len into.new ≤ most) × IsAllOf (F.remaining file.old) into.new.items }
+    ensures long { result ≡ Ok Loading.TooLong → IsLongerThan (F.remaining file.old) most }
 {
     let mut buf = [0u8; 4096];
     while into.len() <= most {
@@ -151,6 +171,26 @@ impl<R: Read> InputSource<R> {
     }
 }
 
+impl<R: Read> InputSource<R> {
+    /// The answer of the reader. A read that has failed is counted once.
+    fn counted(&mut self, answer: io::Result<usize>) -> Result<usize, SourceFault>
+        ensures given { IfOk answer (λ n. result ≡ Ok n) }
+        ensures failed { OnErr answer (result ≡ Err SourceFault.Failed) }
+        ensures counted { OnErr answer (self.new.faults ≡ raised self.old.faults) }
+        ensures quiet { OnOk answer (self.new.faults ≡ self.old.faults) }
+        ensures later { self.old.faults ≤ self.new.faults }
+        ensures keeps { (self.new.inner ≡ self.old.inner) × (self.new.ended ≡ self.old.ended) }
+    {
+        match answer {
+            Ok(n) => Ok(n),
+            Err(_) => {
+                self.faults = self.faults.saturating_add(1);
+                Err(SourceFault::Failed)
+            }
+        }
+    }
+}
+
 impl<R: Read> Source for InputSource<R> {
     ghost left = { λ _. None };
 
@@ -168,20 +208,14 @@ impl<R: Read> Source for InputSource<R> {
         ensures err { OnErr result (Keeps (R.remaining self.old.inner) (R.remaining self.new.inner)) }
         ensures count { IfOk result (λ n. n ≤ length buf.new) }
         ensures told { self.new.ended ≡ tells_end result }
-        ensures cause { OnErr result (Rose self.old.faults self.new.faults) }
+        ensures counted { OnErr result (self.new.faults ≡ raised self.old.faults) }
         ensures quiet { OnOk result (self.new.faults ≡ self.old.faults) }
         ensures later { self.old.faults ≤ self.new.faults }
     {
-        match self.inner.read(buf) {
-            Ok(n) => {
-                self.ended = n == 0;
-                Ok(n)
-            }
-            Err(_) => {
-                self.faults = self.faults.saturating_add(1);
-                Err(SourceFault::Failed)
-            }
-        }
+        let answer = self.inner.read(buf);
+        let given = self.counted(answer);
+        self.ended = given == Ok(0);
+        given
     }
 }
 
@@ -201,6 +235,31 @@ impl<W: Write> OutputSink<W> {
     }
 }
 
+impl<W: Write> OutputSink<W> {
+    /// The answer of the writer, which has failed where it took nothing. A write that has failed is counted once.
+    fn counted(&mut self, answer: io::Result<usize>) -> Result<usize, SinkFault>
+        ensures taken { IfOk answer (λ n. 0 < n → result ≡ Ok n) }
+        ensures nothing { IfOk answer (λ n. n ≡ 0 → result ≡ Err SinkFault.Failed) }
+        ensures failed { IfErr answer (λ e. error_kind e ≢ ErrorKind.OutOfMemory
+            → result ≡ Err SinkFault.Failed) }
+        ensures no_memory { IfErr answer (λ e. error_kind e ≡ ErrorKind.OutOfMemory
+            → result ≡ Err SinkFault.NoMemory) }
+        ensures counted { result ≡ Err SinkFault.Failed → self.new.faults ≡ raised self.old.faults }
+        ensures quiet { result ≢ Err SinkFault.Failed → self.new.faults ≡ self.old.faults }
+        ensures later { self.old.faults ≤ self.new.faults }
+        ensures keeps { self.new.inner ≡ self.old.inner }
+    {
+        match answer {
+            Ok(n) if n > 0 => Ok(n),
+            Err(error) if error.kind() == ErrorKind::OutOfMemory => Err(SinkFault::NoMemory),
+            _ => {
+                self.faults = self.faults.saturating_add(1);
+                Err(SinkFault::Failed)
+            }
+        }
+    }
+}
+
 impl<W: Write> Sink for OutputSink<W> {
     ghost taken = { λ _. None };
 
@@ -213,17 +272,11 @@ impl<W: Write> Sink for OutputSink<W> {
             Appends (W.contents self.old.inner) (W.contents self.new.inner) (take n piece.now)) }
         ensures err { OnErr result (Keeps (W.contents self.old.inner) (W.contents self.new.inner)) }
         ensures count { IfOk result (λ n. (0 < n) × (n ≤ length piece.now)) }
-        ensures cause { result ≡ Err SinkFault.Failed → Rose self.old.faults self.new.faults }
+        ensures counted { result ≡ Err SinkFault.Failed → self.new.faults ≡ raised self.old.faults }
         ensures quiet { result ≢ Err SinkFault.Failed → self.new.faults ≡ self.old.faults }
         ensures later { self.old.faults ≤ self.new.faults }
     {
-        match self.inner.write(piece) {
-            Ok(n) if n > 0 => Ok(n),
-            Err(error) if error.kind() == ErrorKind::OutOfMemory => Err(SinkFault::NoMemory),
-            _ => {
-                self.faults = self.faults.saturating_add(1);
-                Err(SinkFault::Failed)
-            }
-        }
+        let answer = self.inner.write(piece);
+        self.counted(answer)
     }
 }

@@ -2,8 +2,8 @@
 
 ghost use Rattle.std.specs.Prelude.{◌≡◌, ◌≢◌, ◌<◌, ◌≤◌, ◌++◌, ◌↔◌, ◌⊎◌, ℕ, List, true, false, [], Some, None, Ok, Err, IsTrue, IfOk, OnOk, OnErr, length, take, drop, min, string_bytes, vec_len};
 ghost use Rattle.std.specs.Option.{option_copied};
-ghost use Rattle.map_main.specs.Outside.{file_of, tells_end};
-ghost use Rattle.map_main.specs.Memory.{files_of, lists, fails_next, raised};
+ghost use Rattle.map_main.specs.Outside.{file_of, tells_end, raised};
+ghost use Rattle.map_main.specs.Memory.{files_of, lists, fails_next};
 
 use super::outside::{Loading, Shelf, ShelfFault, Sink, SinkFault, Source, SourceFault};
 

@@ -1,7 +1,12 @@
 //! How a run of the program ended.
 
 ghost use Rattle.std.specs.Prelude.{◌≡◌};
+ghost use Rattle.std.specs.Process.{exit_status};
 ghost use Rattle.map_main.specs.Status.{number_of};
+ghost use Rattle.map_main.specs.declared.status.Status.TheVariants.{NoMemory};
+
+use std::process::ExitCode;
+use term_store::NoMemory;
 
 /// How a run of the program ended.
 #[derive(Clone, Copy, Debug, PartialEq, Eq)]
@@ -45,5 +50,21 @@ impl Status {
             Status::NoMemory => 8,
             Status::BudgetSpent => 9,
         }
+    }
+
+    /// The exit code of the program, which is the status's number.
+    pub fn exit_code(self) -> ExitCode
+        ensures value { exit_status result ≡ number_of self }
+    {
+        ExitCode::from(self.number())
+    }
+}
+
+// Want of memory before the words of a command are there ends the program as it does later.
+impl From<NoMemory> for Status {
+    ghost from_gives = { λ _ status. status ≡ NoMemory };
+
+    fn from(_error: NoMemory) -> Status {
+        Status::NoMemory
     }
 }

@@ -1,6 +1,6 @@
 use Rattle.std.proofs.Common.{◌+◌, ◌-◌, vec_len}
 use Rattle.std.specs.Io.KnownBytes.{Consumes}
-use Rattle.map_main.proofs.adapters.read_all.Given as goal
+use Rattle.map_main.proofs.adapters.read_whole.Given as goal
 
 -- the bytes so far are those that the file has given
 abbrev pub invariant-loop-buf : goal.invariant-loop-buf
