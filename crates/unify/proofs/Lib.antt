@@ -1,3 +1,4 @@
 pub mod Growing
 pub mod Entered
 pub mod ReadOut
+pub mod General

@@ -17,9 +17,9 @@ use Rattle.unify_closure.specs.declared.solving.Solved.{Solved}
 use Rattle.unify_closure.specs.Solved.{HasPlaces}
 use Rattle.unify_closure.specs.Sorting.{latest, rep_of}
 use Rattle.unify_closure.proofs.Stacks.{latest_both}
-use Rattle.unify.specs.declared.bound.Bound.{Bound}
+use Rattle.substitution.specs.declared.bindings.Bound.{Bound}
 use Rattle.unify.specs.Graphs.{term_at}
-use Rattle.unify.specs.Bindings.{binding, bound_onto, AreBound}
+use Rattle.substitution.specs.Bindings.{binding, bound_onto, AreBound}
 
 pub bound_push : (store : List (Tree Variable)) (acc : List Binding) (items : List Bound) (b : Bound) → bound_onto store acc (items ++ b ∷ []) ≡ binding store b ∷ bound_onto store acc items
 bound_push store acc [] b = refl

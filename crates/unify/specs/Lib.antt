@@ -1,4 +1,4 @@
 pub mod Places
 pub mod Graphs
 pub mod Pairs
-pub mod Bindings
+pub mod Unifiers

@@ -1,11 +1,11 @@
-//! The most general unifier of equations between terms of a store.
+//! Unification of terms of a store: `unify` finds the most general unifier of equations, in near-linear time whatever
+//! they are.
 #![tactic(auto)]
 
-mod bound;
 mod graph;
 mod places;
 mod reading;
 mod unifying;
 
-pub use bound::Bound;
+pub use substitution::Subst;
 pub use unifying::unify;

@@ -7,10 +7,10 @@ ghost use Rattle.unify_closure.specs.Graph.{node_at};
 ghost use Rattle.unify_closure.specs.Reading.{with_binding};
 ghost use Rattle.unify_closure.specs.Solved.{HasPlaces, read_bindings};
 ghost use Rattle.unify.specs.Graphs.{term_at, node_tree};
-ghost use Rattle.unify.specs.Bindings.{bound, AreBound};
+ghost use Rattle.substitution.specs.Bindings.{bound, AreBound};
 
-use crate::bound::Bound;
 use std::alloc::Global;
+use substitution::{Bindings, Bound};
 use term_store::{NoMemory, Term};
 use unify_closure::{Node, Solved};
 
@@ -20,14 +20,14 @@ fn push_binding(
     terms: &[Term],
     place: usize,
     stands: usize,
-    bindings: &mut Vec<Bound>,
+    bindings: &mut Bindings,
 ) -> Result<(), NoMemory>
     requires place { place < length nodes.now }
     requires stands { stands < length nodes.now }
     requires terms { length terms.now ≡ length nodes.now }
     ensures value { OnOk result ((store : List (Tree Variable)) →
-        bound store bindings.new.items ≡ with_binding (node_tree store terms.now) place (node_at nodes.now place) stands (bound store bindings.old.items)) }
-    ensures within { OnOk result ((store : List (Tree Variable)) → term_at terms.now stands < length store → AreBound store bindings.old.items → AreBound store bindings.new.items) }
+        bound store bindings.new ≡ with_binding (node_tree store terms.now) place (node_at nodes.now place) stands (bound store bindings.old)) }
+    ensures within { OnOk result ((store : List (Tree Variable)) → term_at terms.now stands < length store → AreBound store bindings.old → AreBound store bindings.new) }
 {
     match &nodes[place] {
         Node::Var(number, sort) if stands != place => {
@@ -48,13 +48,13 @@ pub(crate) fn read_bindings(
     nodes: &[Node],
     terms: &[Term],
     solved: &Solved,
-) -> Result<Vec<Bound>, NoMemory>
+) -> Result<Bindings, NoMemory>
     requires places { HasPlaces (length nodes.now) solved.now }
     requires terms { length terms.now ≡ length nodes.now }
-    ensures value { IfOk result (λ bs. (store : List (Tree Variable)) → bound store bs.items ≡ read_bindings nodes.now (node_tree store terms.now) solved.now) }
-    ensures within { IfOk result (λ bs. (store : List (Tree Variable)) → ((p : ℕ) → p < length nodes.now → term_at terms.now p < length store) → AreBound store bs.items) }
+    ensures value { IfOk result (λ bs. (store : List (Tree Variable)) → bound store bs ≡ read_bindings nodes.now (node_tree store terms.now) solved.now) }
+    ensures within { IfOk result (λ bs. (store : List (Tree Variable)) → ((p : ℕ) → p < length nodes.now → term_at terms.now p < length store) → AreBound store bs) }
 {
-    let mut bindings = Vec::new(alloc);
+    let mut bindings = Bindings::new(alloc);
     for place in solved.order.as_slice() {
         push_binding(nodes, terms, *place, solved.stands[*place], &mut bindings)?;
     }
