@@ -1,3 +1,4 @@
 pub mod Places
 pub mod Weighed
 pub mod Carried
+pub mod Built

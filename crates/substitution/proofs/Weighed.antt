@@ -10,12 +10,14 @@ use Rattle.clp_model.specs.declared.tree.Tree.{Tree, Var, App}
 use Rattle.clp_model.specs.Trees.{size, depth, total_size, greatest_depth, variables, variables_in}
 use Rattle.clp_model.proofs.Trees.{size_app, depth_app, size_var, depth_var, variables_app, variables_var}
 use Rattle.clp_model.proofs.Membership.{Among, first, next}
-use Rattle.term_store.specs.Trees.{tree_at, trees_at, AreIn, IsOver}
+use Rattle.term_store.specs.Trees.{tree_at, trees_at, AreIn, IsOver, IsTooLarge}
 use Rattle.term_store.proofs.Keeping.{trees_at_more}
 use Rattle.unify_model.specs.Substituting.{substituted, substituted_all}
 use Rattle.unify_laws.proofs.Applications.{substituted_app, substituted_var}
+use Rattle.substitution.specs.declared.bindings.Bound.{Bound}
 use Rattle.substitution.specs.declared.weighing.Weight.{Weight}
-use Rattle.substitution.specs.Bindings.{height_of, greatest_height, height}
+use Rattle.substitution.proofs.Places.{count_is, height_within}
+use Rattle.substitution.specs.Bindings.{bound_variables, height_of, greatest_height, height}
 use Rattle.substitution.specs.Weights.{AreMeasures, HasMeasures, Weighs, WeighAll, weight_at, HaveWeights, AreNoted}
 
 -- ---- two weights
@@ -187,3 +189,15 @@ module _ (f : Variable → Tree Variable) (vs : List Variable) (ws more : List (
 
   pub more_count : length more ≡ place + 1
   more_count = let n = ap length is in let l = length-append ws (w ∷ []) in omega (arith, n, l, count)
+
+-- what is weighed is within the limits
+pub not_large : (w : Weight) (t : Tree Variable) → Weighs (Some w) t → IsTooLarge t → ⊥
+not_large w t h (inl k) = let p = h.nodes_are in let q = h.few in absurd (omega (arith, k, p, q))
+not_large w t h (inr k) = let p = h.levels_are in let q = h.flat in absurd (omega (arith, k, p, q))
+
+-- no tree reaches higher than the bindings
+pub height_low : (items : List Bound) (t : Tree Variable) → height (bound_variables items) t ≤ length items
+height_low items t =
+    let n = count_is items in
+    let h = each_height (bound_variables items) (variables t) (length (bound_variables items)) (λ w m. height_within (bound_variables items) w) in
+    omega (arith, n, h)

@@ -1,3 +1,4 @@
 pub mod Bindings
 pub mod Images
+pub mod Made
 pub mod Weights

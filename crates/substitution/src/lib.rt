@@ -3,9 +3,11 @@
 #![tactic(auto)]
 
 mod bindings;
+mod building;
 mod images;
 mod subst;
 mod weighing;
 
 pub use bindings::{Bindings, Bound};
+pub use building::apply;
 pub use subst::Subst;
