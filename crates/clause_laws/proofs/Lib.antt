@@ -1,0 +1,13 @@
+pub mod Rows
+pub mod Solving
+pub mod Numbering
+pub mod Scaling
+pub mod Renaming
+pub mod Distinct
+pub mod Upto
+pub mod Written
+pub mod Clean
+pub mod Again
+pub mod NewClause
+pub mod Variants
+pub mod Loading
