@@ -1,0 +1,13 @@
+//! Tests of certificates through their public calls. There is no other code here: a test in the crate that it tests
+//! has that whole crate proved once more.
+#![tactic(auto)]
+
+#[cfg(test)]
+mod checks;
+#[cfg(test)]
+mod extremes;
+#[cfg(test)]
+mod parts;
+
+/// Nothing: a library needs an item.
+pub fn nothing() {}
