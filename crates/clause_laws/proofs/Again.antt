@@ -54,7 +54,7 @@ behind_distinct : (found xs : List ℕ) → AreDistinct (found ++ xs) → AreDis
 behind_distinct [] xs d = d
 behind_distinct (m ∷ found) xs d = behind_distinct found xs d.1
 
-not_before : (found : List ℕ) (more rest : List ℕ) → AreDistinct (found ++ (more ++ rest)) → (v : ℕ) → Among v more → ¬ Among v found
+pub not_before : (found : List ℕ) (more rest : List ℕ) → AreDistinct (found ++ (more ++ rest)) → (v : ℕ) → Among v more → ¬ Among v found
 not_before [] more rest d v a b = elim b [ ]
 not_before (m ∷ found) more rest d v a b = among_cases b
     (λ e. d.0 (among_back m found (more ++ rest) (among_front m more rest (subst (λ z. Among z more) e a))))
@@ -132,7 +132,7 @@ map_places found (x ∷ xs) d =
 pub places_upto : (met : List ℕ) → AreDistinct met → map (place_in met) met ≡ upto (length met)
 places_upto met d = map_places [] met d
 
-sorts_at : (h : ℕ → Sort) (met ns : List ℕ) → ((k : ℕ) → Among k ns → Among k met) → map (sort_in (map h met)) (map (place_in met) ns) ≡ map h ns
+pub sorts_at : (h : ℕ → Sort) (met ns : List ℕ) → ((k : ℕ) → Among k ns → Among k met) → map (sort_in (map h met)) (map (place_in met) ns) ≡ map h ns
 sorts_at h met [] inside = refl
 sorts_at h met (n ∷ ns) inside =
     let a = at_place h met n Any Any (inside n first) in
@@ -192,7 +192,7 @@ module _ (c : Clause) (clean : AreClean c.rows) (rising : (r : Row) → Among r 
   numbered_clean = written_clean g c.rows (λ r a. (is_normal r a, apart r a)) tells clean
 
   -- the variables of the numbered clause by first occurrence are the numbers from 1 on
-  met_again : variables_by_first_occurrence numbered ≡ upto (length met)
+  pub met_again : variables_by_first_occurrence numbered ≡ upto (length met)
   met_again =
       let T' = variables_in (numbered.head ∷ numbered.body) in
       let R = rows_variables c.rows in

@@ -11,3 +11,5 @@ pub mod Again
 pub mod NewClause
 pub mod Variants
 pub mod Loading
+pub mod Source
+pub mod SourceLoaded

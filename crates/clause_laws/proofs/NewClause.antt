@@ -98,13 +98,13 @@ module _ (f : ℕ → ℕ) (r : Row) (is : IsNormal r) (apart : IsInjectiveOn (r
       (smaller (factor s) (normal s).constant s.constant (factor_positive s) (constant_back s) (leb-true (unsigned_abs r.constant) limit (and_second (pairs_within r.pairs) (nat_le (unsigned_abs r.constant) limit) within))))
 
 -- ---- rows in range
-each_within : (rows : List Row) → all_within rows ≡ true → (r : Row) → Among r rows → is_within (normal r) ≡ true
+pub each_within : (rows : List Row) → all_within rows ≡ true → (r : Row) → Among r rows → is_within (normal r) ≡ true
 each_within [] e r a = elim a [ ]
 each_within (s ∷ rows) e r a = among_cases a
     (λ q. subst (λ x. is_within (normal x) ≡ true) (sym q) (and_first (is_within (normal s)) (all_within rows) e))
     (λ m. each_within rows (and_second (is_within (normal s)) (all_within rows) e) r m)
 
-within_each : (rows : List Row) → ((r : Row) → Among r rows → is_within (normal r) ≡ true) → all_within rows ≡ true
+pub within_each : (rows : List Row) → ((r : Row) → Among r rows → is_within (normal r) ≡ true) → all_within rows ≡ true
 within_each [] h = refl
 within_each (s ∷ rows) h = and_both (is_within (normal s)) (all_within rows) (h s first) (within_each rows (λ r m. h r (next m)))
 

@@ -25,7 +25,7 @@ use Rattle.clause_laws.proofs.Clean.{cleaned_has}
 use Rattle.clause_laws.proofs.Again.{at_a_place, place_apart, rows_of_clean, same_parts}
 
 -- ---- lists of numbers under names that keep them apart
-abbrev Apart : List ℕ → (ℕ → ℕ) → Type 0
+abbrev pub Apart : List ℕ → (ℕ → ℕ) → Type 0
 Apart ns f = (m n : ℕ) → Among m ns → Among n ns → f m ≡ f n → m ≡ n
 
 module _ (f : ℕ → ℕ) (all : List ℕ) (apart : Apart all f) where
@@ -35,7 +35,7 @@ module _ (f : ℕ → ℕ) (all : List ℕ) (apart : Apart all f) where
       (λ e. subst (λ z. Among z (k ∷ ns)) (apart k n (inside k first) a (sym e)) first)
       (λ b. next (among_back_mapped ns (λ j c. inside j (next c)) n a b))
 
-  distinct_mapped : (found xs : List ℕ) → ((k : ℕ) → Among k found → Among k all) → ((k : ℕ) → Among k xs → Among k all) → distinct_after nat_eq (map f found) (map f xs) ≡ map f (distinct_after nat_eq found xs)
+  pub distinct_mapped : (found xs : List ℕ) → ((k : ℕ) → Among k found → Among k all) → ((k : ℕ) → Among k xs → Among k all) → distinct_after nat_eq (map f found) (map f xs) ≡ map f (distinct_after nat_eq found xs)
   distinct_mapped found [] i j = refl
   distinct_mapped found (x ∷ xs) i j = elim (among_or_not nat_eq number_equality x found) [
     | inl a ↦
@@ -48,7 +48,7 @@ module _ (f : ℕ → ℕ) (all : List ℕ) (apart : Apart all f) where
         ∙ (distinct_mapped (found ++ x ∷ []) xs i' (λ k b. j k (next b)) ∙ ap (λ g. map f (distinct_after nat_eq g xs)) (sym (with_new nat_eq number_equality found x n)))
   ]
 
-  place_mapped : (ns : List ℕ) → ((k : ℕ) → Among k ns → Among k all) → (n : ℕ) → Among n all → place_in (map f ns) (f n) ≡ place_in ns n
+  pub place_mapped : (ns : List ℕ) → ((k : ℕ) → Among k ns → Among k all) → (n : ℕ) → Among n all → place_in (map f ns) (f n) ≡ place_in ns n
   place_mapped [] inside n a = refl
   place_mapped (m ∷ ns) inside n a = by (nat_eq m n) refl (nat_eq (f m) (f n)) refl (place_mapped ns (λ k b. inside k (next b)) n a)
     where

@@ -6,6 +6,7 @@ use Rattle.clp_meaning.specs.Laws.{HaveSameInstances}
 use Rattle.clause_model.specs.Canonical.{canonical_form, new_clause, HasRisingRows, IsCanonical}
 use Rattle.clause_model.specs.Solved.{solved_clause, RowsAreNum}
 use Rattle.clause_model.specs.Load.{load_one, load, Program}
+use Rattle.clause_model.specs.Source.{source_of}
 use Rattle.clause_model.specs.Variants.{IsClosed, AreVariants}
 
 abbrev pub HasNoInstance : Clause → Type 0
@@ -62,3 +63,7 @@ AllNum (c ∷ cs) = RowsAreNum c × AllNum cs
 
 abbrev pub LoadingKeepsInstances : Type 0
 LoadingKeepsInstances = (source : List Clause) (p : Program) → AllNum source → load source ≡ Ok p → AllStand p.clauses source
+
+-- the source of a canonical clause is loaded as this clause
+abbrev pub SourceIsLoadedAgain : Type 0
+SourceIsLoadedAgain = (c : Clause) → IsCanonical c → load_one (source_of c) ≡ Ok (Some c)

@@ -3,7 +3,7 @@
 //! empty function.
 #![tactic(auto)]
 
-ghost use Rattle.clause_laws.specs.Laws.{CanonicalFormKeepsInstances, CanonicalFormIsItsOwn, NewClauseIsCanonical, CanonicalClauseStays, VariantsHaveOneCanonicalForm, SolvedClauseKeepsInstances, UnsolvedClauseHasNoInstance, LoadedClauseKeepsInstances, LeftOutClauseHasNoInstance, LoadingKeepsInstances};
+ghost use Rattle.clause_laws.specs.Laws.{CanonicalFormKeepsInstances, CanonicalFormIsItsOwn, NewClauseIsCanonical, CanonicalClauseStays, VariantsHaveOneCanonicalForm, SolvedClauseKeepsInstances, UnsolvedClauseHasNoInstance, LoadedClauseKeepsInstances, LeftOutClauseHasNoInstance, LoadingKeepsInstances, SourceIsLoadedAgain};
 
 /// A clause and its canonical form have the same instances, and the canonical form is its own.
 pub fn canonical_form_keeps_instances()
@@ -35,4 +35,10 @@ pub fn loading_keeps_instances()
     ensures loaded { LoadedClauseKeepsInstances }
     ensures left_out { LeftOutClauseHasNoInstance }
     ensures program { LoadingKeepsInstances }
+{}
+
+/// The source of a canonical clause, whose variables are numbered as they are first met in its printed text, is
+/// loaded as this clause.
+pub fn source_is_loaded_again()
+    ensures { SourceIsLoadedAgain }
 {}
