@@ -62,7 +62,7 @@ unbound_image store k items v h = unbound_by k (bound store items) v (ap (λ vs.
 
 -- ---- the binding of a variable among the others
 -- it is the one behind which there are as many as its height says, less one
-first_at : (pre : List Binding) (b : Binding) (rest : List Binding) (v : Variable) → height_of (firsts (pre ++ b ∷ rest)) v ≡ suc (length rest) → (b.0 ≡ v) × (image_at_once (pre ++ b ∷ rest) v ≡ b.1)
+pub first_at : (pre : List Binding) (b : Binding) (rest : List Binding) (v : Variable) → height_of (firsts (pre ++ b ∷ rest)) v ≡ suc (length rest) → (b.0 ≡ v) × (image_at_once (pre ++ b ∷ rest) v ≡ b.1)
 first_at [] b rest v h = go (same_variable b.0 v) refl h
   where
     go : (c : Bool) → same_variable b.0 v ≡ c → (if c then suc (length (firsts rest)) else height_of (firsts rest) v) ≡ suc (length rest) → (b.0 ≡ v) × ((if c then b.1 else image_at_once rest v) ≡ b.1)
@@ -128,13 +128,13 @@ splits_onto store acc (x ∷ xs) (suc place) b e =
     record { pre = k.pre; rest = k.rest; is = k.is; count = (let c = k.count in omega (arith, c)) }
 
 module _ (store : List (Tree Variable)) (items : List Bound) (place : ℕ) (b : Bound) (at : slice_get items place ≡ Some b) where
-  splits : Splits (bound store items) (binding store b) place
+  pub splits : Splits (bound store items) (binding store b) place
   splits = let k = splits_onto store [] items place b at in record { pre = k.pre; rest = k.rest; is = k.is; count = (let c = k.count in omega (arith, c)) }
 
-  abbrev split_list : List Binding
+  abbrev pub split_list : List Binding
   split_list = splits.pre ++ binding store b ∷ splits.rest
 
-  its_height : (v : Variable) → height_of (bound_variables items) v ≡ suc place → height_of (firsts split_list) v ≡ suc (length splits.rest)
+  pub its_height : (v : Variable) → height_of (bound_variables items) v ≡ suc place → height_of (firsts split_list) v ≡ suc (length splits.rest)
   its_height v h = ap (λ bs. height_of (firsts bs) v) (sym splits.is) ∙ ap (λ vs. height_of vs v) (sym (variables_are store items)) ∙ h ∙ ap suc (sym splits.count)
 
   image_in : (k : Kind) → AreOrdered k (bound store items) → (v : Variable) → height_of (bound_variables items) v ≡ suc place → images_by k (bound store items) v ≡ carried k (images_by k (bound store items)) (tree_at store b.term)

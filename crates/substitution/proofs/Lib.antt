@@ -2,3 +2,4 @@ pub mod Places
 pub mod Weighed
 pub mod Carried
 pub mod Built
+pub mod Meeting

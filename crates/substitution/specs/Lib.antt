@@ -1,4 +1,5 @@
 pub mod Bindings
+pub mod Found
 pub mod Images
 pub mod Made
 pub mod Weights

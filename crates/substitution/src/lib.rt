@@ -5,9 +5,11 @@
 mod bindings;
 mod building;
 mod images;
+mod patterns;
 mod subst;
 mod weighing;
 
 pub use bindings::{Bindings, Bound};
 pub use building::apply;
+pub use patterns::matching;
 pub use subst::Subst;
