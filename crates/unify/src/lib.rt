@@ -7,5 +7,5 @@ mod places;
 mod reading;
 mod unifying;
 
-pub use substitution::Subst;
+pub use substitution::{Subst, apply};
 pub use unifying::unify;
