@@ -4,10 +4,10 @@ pub mod Normalized
 pub mod Rising
 pub mod Nonzero
 pub mod Wide
-pub mod Steps
 pub mod Quotients
 pub mod Made
 pub mod Combined
 pub mod Renaming
 pub mod Coefficients
 pub mod Opposites
+pub mod Steps

@@ -1,12 +1,11 @@
 -- Pairs whose coefficient is 0 change neither the joint divisor nor the first sign.
-use Rattle.std.proofs.Common.{◌≡◌, ℕ, zero, suc, ◌+◌, ◌<◌, ◌%◌, List, [], ◌∷◌, ◌++◌, length, get_or, drop, drop-cons, add-one, Bool, true, false, append_assoc, arith, refl, sym, ◌∙◌, ap}
+use Rattle.std.proofs.Common.{◌≡◌, ℕ, zero, suc, ◌%◌, List, [], ◌∷◌, ◌++◌, Bool, true, false, append_assoc, arith, refl, sym, ◌∙◌, ap}
 use Rattle.std.specs.Prelude.{unsigned_abs, int_lt, if◌then◌else◌}
 use Rattle.std.proofs.Math.IntN.{ℤ, pos, negsuc}
 use Rattle.std.proofs.lemmas.Bool.Decides.{nat_tests}
 use Rattle.linear_model.specs.Gcd.{gcd}
 use Rattle.linear_model.specs.Forms.{is_zero, with_pair}
 use Rattle.linear_model.specs.Normal.{joint_gcd, divided_pairs, pairs_within, first_is_negative}
-use Rattle.lin_row.specs.Rows.{nonzero}
 use Rattle.lin_row.proofs.Divisors.{gcd_step, gcd_zero}
 use Rattle.lin_row.proofs.Quotients.{within_append, and_false}
 
@@ -15,11 +14,6 @@ zero_is (pos zero) e = refl
 zero_is (pos (suc n)) e = absurd (let k : suc n ≡ 0 = grind (arith, nat_tests) in omega arith)
 zero_is (negsuc n) e = cc
 
-pub not_zero : (z : ℤ) → ¬ (z ≡ pos 0) → is_zero z ≡ false
-not_zero (pos zero) h = absurd (h refl)
-not_zero (pos (suc n)) h = grind (arith, nat_tests)
-not_zero (negsuc n) h = refl
-
 gcd_of_zero : (n : ℕ) → gcd 0 n ≡ n
 gcd_of_zero n = gcd_step 0 n ∙ (ap (gcd n) (by n) ∙ gcd_zero n)
   where
@@ -27,32 +21,27 @@ gcd_of_zero n = gcd_step 0 n ∙ (ap (gcd n) (by n) ∙ gcd_zero n)
     by zero = omega arith
     by (suc n) = omega arith
 
-joint_front : (n : ℕ) (p : ℕ × ℤ) (ps : List (ℕ × ℤ)) → joint_gcd n (nonzero (p ∷ ps)) ≡ joint_gcd (gcd (unsigned_abs p.1) n) (nonzero ps)
-joint_front n p ps = by (is_zero p.1) refl
+joint_with : (n v : ℕ) (c : ℤ) (ps : List (ℕ × ℤ)) → joint_gcd n (with_pair v c ps) ≡ joint_gcd (gcd (unsigned_abs c) n) ps
+joint_with n v c ps = by (is_zero c) refl
   where
-    by : (b : Bool) → is_zero p.1 ≡ b → joint_gcd n (if b then nonzero ps else (p.0, p.1) ∷ nonzero ps) ≡ joint_gcd (gcd (unsigned_abs p.1) n) (nonzero ps)
+    by : (b : Bool) → is_zero c ≡ b → joint_gcd n (if b then ps else (v, c) ∷ ps) ≡ joint_gcd (gcd (unsigned_abs c) n) ps
     by true e =
-        let z = ap unsigned_abs (zero_is p.1 e) in
-        let g : gcd (unsigned_abs p.1) n ≡ n = ap (λ m. gcd m n) z ∙ gcd_of_zero n in
-        ap (λ m. joint_gcd m (nonzero ps)) (sym g)
+        let z = ap unsigned_abs (zero_is c e) in
+        let g : gcd (unsigned_abs c) n ≡ n = ap (λ m. gcd m n) z ∙ gcd_of_zero n in
+        ap (λ m. joint_gcd m ps) (sym g)
     by false e = refl
 
-head : (ps : List (ℕ × ℤ)) (i : ℕ) → i < length ps → drop i ps ≡ get_or ps i (0, pos 0) ∷ drop (i + 1) ps
-head ps i h = rw (add-one, drop-cons ps i (0, pos 0)) refl
+-- ---- the turns of the loops, where `here` is what was left and `rest` what is
+pub joint_more : (n m all v : ℕ) (c : ℤ) (here rest : List (ℕ × ℤ)) → here ≡ with_pair v c rest → m ≡ gcd (unsigned_abs c) n → joint_gcd n here ≡ all → joint_gcd m rest ≡ all
+joint_more n m all v c here rest e g h =
+    ap (λ k. joint_gcd k rest) g ∙ (sym (joint_with n v c rest) ∙ (ap (joint_gcd n) (sym e) ∙ h))
 
--- the turns of the loops
-pub joint_more : (n all : ℕ) (ps : List (ℕ × ℤ)) (i : ℕ) → i < length ps → joint_gcd n (nonzero (drop i ps)) ≡ all
-    → joint_gcd (gcd (unsigned_abs (get_or ps i (0, pos 0)).1) n) (nonzero (drop (i + 1) ps)) ≡ all
-joint_more n all ps i h e =
-    sym (joint_front n (get_or ps i (0, pos 0)) (drop (i + 1) ps)) ∙ (ap (λ xs. joint_gcd n (nonzero xs)) (sym (head ps i h)) ∙ e)
+pub first_more : (v : ℕ) (c : ℤ) (here rest : List (ℕ × ℤ)) (all : Bool) → here ≡ with_pair v c rest → is_zero c ≡ true → first_is_negative here ≡ all → first_is_negative rest ≡ all
+first_more v c here rest all e z h = sym (ap (λ b. first_is_negative (if b then rest else (v, c) ∷ rest)) z) ∙ (ap first_is_negative (sym e) ∙ h)
 
-first_front : (p : ℕ × ℤ) (ps : List (ℕ × ℤ)) → is_zero p.1 ≡ true → first_is_negative (nonzero (p ∷ ps)) ≡ first_is_negative (nonzero ps)
-first_front p ps e = ap (λ b. first_is_negative (if b then nonzero ps else (p.0, p.1) ∷ nonzero ps)) e
+pub first_found : (v : ℕ) (c : ℤ) (here rest : List (ℕ × ℤ)) (all b : Bool) → here ≡ with_pair v c rest → is_zero c ≡ false → b ≡ int_lt c (pos 0) → first_is_negative here ≡ all → b ≡ all
+first_found v c here rest all b e z g h = g ∙ (sym (ap (λ t. first_is_negative (if t then rest else (v, c) ∷ rest)) z) ∙ (ap first_is_negative (sym e) ∙ h))
 
-first_here : (p : ℕ × ℤ) (ps : List (ℕ × ℤ)) → is_zero p.1 ≡ false → first_is_negative (nonzero (p ∷ ps)) ≡ int_lt p.1 (pos 0)
-first_here p ps e = ap (λ b. first_is_negative (if b then nonzero ps else (p.0, p.1) ∷ nonzero ps)) e
-
--- ---- the turns of the loop that divides
 with_after : (d : ℤ) (v : ℕ) (c : ℤ) (rest : List (ℕ × ℤ)) → divided_pairs d (with_pair v c []) ++ divided_pairs d rest ≡ divided_pairs d (with_pair v c rest)
 with_after d v c rest = by (is_zero c)
   where
@@ -60,26 +49,20 @@ with_after d v c rest = by (is_zero c)
     by true = refl
     by false = refl
 
-module _ (d : ℤ) (ps : List (ℕ × ℤ)) (i : ℕ) (out old all : List (ℕ × ℤ)) where
-  abbrev p : ℕ × ℤ
-  p = get_or ps i (0, pos 0)
-
+module _ (d : ℤ) (v : ℕ) (c : ℤ) (left rest out old all : List (ℕ × ℤ)) (is : left ≡ with_pair v c rest) where
   abbrev here : List (ℕ × ℤ)
-  here = divided_pairs d (with_pair p.0 p.1 [])
+  here = divided_pairs d (with_pair v c [])
 
-  front : i < length ps → divided_pairs d (nonzero (drop i ps)) ≡ here ++ divided_pairs d (nonzero (drop (i + 1) ps))
-  front h = ap (λ xs. divided_pairs d (nonzero xs)) (head ps i h) ∙ sym (with_after d p.0 p.1 (nonzero (drop (i + 1) ps)))
+  front : divided_pairs d left ≡ here ++ divided_pairs d rest
+  front = ap (divided_pairs d) is ∙ sym (with_after d v c rest)
 
-  pub one_more : i < length ps → out ≡ old ++ here → old ++ divided_pairs d (nonzero (drop i ps)) ≡ all → out ++ divided_pairs d (nonzero (drop (i + 1) ps)) ≡ all
-  one_more h k g =
-      ap (λ xs. xs ++ divided_pairs d (nonzero (drop (i + 1) ps))) k
-      ∙ (append_assoc old here (divided_pairs d (nonzero (drop (i + 1) ps))) ∙ (ap (λ xs. old ++ xs) (sym (front h)) ∙ g))
+  pub one_more : out ≡ old ++ here → old ++ divided_pairs d left ≡ all → out ++ divided_pairs d rest ≡ all
+  one_more k g = ap (λ xs. xs ++ divided_pairs d rest) k ∙ (append_assoc old here (divided_pairs d rest) ∙ (ap (λ xs. old ++ xs) (sym front) ∙ g))
 
   pub within_more : out ≡ old ++ here → pairs_within here ≡ true → pairs_within old ≡ true → pairs_within out ≡ true
   within_more k h w = ap pairs_within k ∙ (within_append old here ∙ rw (w, h) refl)
 
-  pub past : i < length ps → pairs_within here ≡ false → old ++ divided_pairs d (nonzero (drop i ps)) ≡ all → pairs_within all ≡ false
-  past h k g =
-      let rest = divided_pairs d (nonzero (drop (i + 1) ps)) in
-      let a : pairs_within (divided_pairs d (nonzero (drop i ps))) ≡ false = ap pairs_within (front h) ∙ (within_append here rest ∙ rw k refl) in
-      ap pairs_within (sym g) ∙ (within_append old (divided_pairs d (nonzero (drop i ps))) ∙ rw a (and_false (pairs_within old)))
+  pub past : pairs_within here ≡ false → old ++ divided_pairs d left ≡ all → pairs_within all ≡ false
+  past k g =
+      let a : pairs_within (divided_pairs d left) ≡ false = ap pairs_within front ∙ (within_append here (divided_pairs d rest) ∙ rw k refl) in
+      ap pairs_within (sym g) ∙ (within_append old (divided_pairs d left) ∙ rw a (and_false (pairs_within old)))

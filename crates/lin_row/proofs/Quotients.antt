@@ -11,8 +11,8 @@ use Rattle.std.proofs.Math.IntN.{ℤ, ◌+ℤ◌, ◌*ℤ◌}
 use Rattle.clp_model.specs.Clauses.{Row}
 use Rattle.clp_model.specs.declared.sort.Rel.{Rel}
 use Rattle.linear_model.specs.Forms.{combined, combination, IsRising}
-use Rattle.lin_row.specs.Rows.{row_of, nonzero, IsKept}
-use Rattle.lin_row.proofs.Rising.{nonzero_same, combined_rising}
+use Rattle.lin_row.specs.Rows.{row_of, IsKept}
+use Rattle.lin_row.proofs.Rising.{combined_rising}
 use Rattle.std.proofs.lemmas.Bool.Decides.{nat_tests}
 use Rattle.linear_model.specs.Normal.{pairs_within, is_within, limit}
 
@@ -72,12 +72,11 @@ pub same_64 : (z : ℤ) → unsigned_abs z ≤ limit → to_z w64 (of_z w64 z) �
 same_64 z h = to_z-of_z w64 z (fits_signed_from_abs w64 z (omega arith))
 
 -- the row of the sums as the code has them
-pub made : (rel : Rel) (a b : ℤ) (r s : Row) (now items first second : List (ℕ × ℤ)) (k : ℤ)
-    → unsigned_abs a ≤ limit → unsigned_abs b ≤ limit → is_within r ≡ true → is_within s ≡ true
-    → now ≡ items → items ≡ combined (to_z w64 (of_z w64 a)) first (to_z w64 (of_z w64 b)) second → first ≡ r.pairs → second ≡ s.pairs
+pub made : (rel : Rel) (a b : ℤ) (r s : Row) (first second : List (ℕ × ℤ)) (k : ℤ)
+    → unsigned_abs a ≤ limit → unsigned_abs b ≤ limit → is_within r ≡ true → is_within s ≡ true → first ≡ r.pairs → second ≡ s.pairs
     → k ≡ to_z w64 (of_z w64 a) *ℤ to_z w64 (of_z w64 r.constant) +ℤ to_z w64 (of_z w64 b) *ℤ to_z w64 (of_z w64 s.constant)
-    → IsRising now → row_of rel (nonzero now) (to_z w128 (of_z w128 k)) ≡ combination rel a r b s
-made rel a b r s now items first second k ha hb hr hs e f g h i up =
+    → row_of rel (combined (to_z w64 (of_z w64 a)) first (to_z w64 (of_z w64 b)) second) (to_z w128 (of_z w128 k)) ≡ combination rel a r b s
+made rel a b r s first second k ha hb hr hs g h i =
     let ea = same_64 a ha in
     let eb = same_64 b hb in
     let er = same_64 r.constant (row_constant_small r hr) in
@@ -85,11 +84,10 @@ made rel a b r s now items first second k ha hb hr hs e f g h i up =
     let fits = sum_fits a r.constant b s.constant ha (row_constant_small r hr) hb (row_constant_small s hs) in
     let j : k ≡ a *ℤ r.constant +ℤ b *ℤ s.constant = i ∙ rw (ea, eb, er, es) refl in
     let l : to_z w128 (of_z w128 k) ≡ a *ℤ r.constant +ℤ b *ℤ s.constant = ap (λ z. to_z w128 (of_z w128 z)) j ∙ to_z-of_z w128 (a *ℤ r.constant +ℤ b *ℤ s.constant) fits in
-    let m : now ≡ combined a r.pairs b s.pairs = e ∙ (f ∙ rw (ea, eb, g, h) refl) in
-    combined_row rel a b r s (nonzero now) (to_z w128 (of_z w128 k)) (nonzero_same now up ∙ m) l
+    let m : combined (to_z w64 (of_z w64 a)) first (to_z w64 (of_z w64 b)) second ≡ combined a r.pairs b s.pairs = rw (ea, eb, g, h) refl in
+    combined_row rel a b r s _ (to_z w128 (of_z w128 k)) m l
 
-pub sums_rise : (a b : ℤ) (r s : Row) (now items first second : List (ℕ × ℤ)) → IsKept r → IsKept s
-    → now ≡ items → items ≡ combined a first b second → first ≡ r.pairs → second ≡ s.pairs → IsRising now
-sums_rise a b r s now items first second hr hs e f g h =
-    let m : now ≡ combined a r.pairs b s.pairs = e ∙ (f ∙ rw (g, h) refl) in
+pub sums_rise : (a b : ℤ) (r s : Row) (first second : List (ℕ × ℤ)) → IsKept r → IsKept s → first ≡ r.pairs → second ≡ s.pairs → IsRising (combined a first b second)
+sums_rise a b r s first second hr hs g h =
+    let m : combined a first b second ≡ combined a r.pairs b s.pairs = rw (g, h) refl in
     subst IsRising (sym m) (combined_rising a r.pairs b s.pairs hr.normal.rising hs.normal.rising)

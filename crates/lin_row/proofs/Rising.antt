@@ -41,10 +41,6 @@ nonzero_same (p ∷ ps) r = by (is_zero p.1) r.0 (nonzero_same ps r.2)
     by true e ih = cc
     by false e ih = ap (λ xs. p ∷ xs) ih
 
-pub rising_variables : (ps : List (ℕ × ℤ)) → IsRising ps → VariablesRise ps
-rising_variables [] r = tt
-rising_variables (p ∷ ps) r = (r.1, rising_variables ps r.2)
-
 -- ---- combinations
 above_scaled : (n : ℕ) (b : ℤ) (qs : List (ℕ × ℤ)) → Above n qs → Above n (scaled b qs)
 above_scaled n b [] a = tt

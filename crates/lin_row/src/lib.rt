@@ -10,6 +10,7 @@ mod order;
 mod reduce;
 mod rename;
 mod row;
+mod source;
 mod truth;
 
 pub use clp_model::Rel;

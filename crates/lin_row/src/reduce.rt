@@ -1,13 +1,14 @@
-ghost use Rattle.std.specs.Prelude.{◌≡◌, ◌<◌, ◌≤◌, ◌++◌, [], ◌∷◌, true, false, Err, IfOk, IfSome, IfNone, OnOk, unsigned_abs, int_div};
-ghost use Rattle.linear_model.specs.Forms.{with_pair};
+ghost use Rattle.std.specs.Prelude.{◌≡◌, ◌<◌, ◌≤◌, ◌++◌, [], ◌∷◌, true, false, pos, Err, IfOk, IfSome, IfNone, OnOk, unsigned_abs, int_div, int_lt};
+ghost use Rattle.linear_model.specs.Forms.{is_zero, with_pair, IsRising};
 ghost use Rattle.linear_model.specs.Gcd.{gcd};
 ghost use Rattle.linear_model.specs.Normal as spec;
-ghost use Rattle.linear_model.specs.Normal.{joint_gcd, limit, divisor_of, divided_pairs, pairs_within};
-ghost use Rattle.lin_row.specs.Rows.{nonzero};
+ghost use Rattle.linear_model.specs.Normal.{normal, is_within, joint_gcd, limit, divisor_of, divided_pairs, pairs_within};
+ghost use Rattle.lin_row.specs.Rows.{row_of, IsKept};
 ghost use Rattle.lin_row.specs.declared.row.RowFault.TheVariants.{Overflow};
 
 use crate::euclid::gcd;
-use crate::row::{INLINE, RowFault};
+use crate::row::{INLINE, Row, RowFault};
+use crate::source::Source;
 use clp_model::Rel;
 use smallvec::SmallVec;
 use std::alloc::Global;
@@ -23,41 +24,56 @@ fn shared(p: &(u32, i128), divisor: u128) -> u128
 }
 
 /// The greatest common divisor of the constant and all coefficients.
-#[tactic(auto, using(crate::proofs::Nonzero::joint_more))]
-pub(crate) fn joint(constant: i128, pairs: &[(u32, i128)]) -> u128
-    ensures { result ≡ joint_gcd (unsigned_abs constant) (nonzero pairs.now) }
+fn joint<S: Source>(constant: i128, source: &S) -> u128
+    ensures { result ≡ joint_gcd (unsigned_abs constant) (S.rest source.now 0 0) }
 {
     let mut divisor = constant.unsigned_abs();
-    for p in pairs {
-        divisor = shared(p, divisor);
+    let mut i = 0;
+    let mut j = 0;
+    while let Some(sum) = source.at(i, j) {
+        divisor = shared(&sum.pair, divisor);
+        i = sum.i;
+        j = sum.j;
     }
     divisor
 }
 
-/// Whether the first coefficient that is not 0 is below 0.
-fn first_is_negative(pairs: &[(u32, i128)]) -> bool
-    ensures { result ≡ spec.first_is_negative (nonzero pairs.now) }
+/// Whether the coefficient is below 0, if it is not 0.
+fn sign(p: &(u32, i128)) -> Option<bool>
+    ensures some { IfSome result (λ b. (is_zero p.now.1 ≡ false) × (b ≡ int_lt p.now.1 (pos 0))) }
+    ensures none { IfNone result (is_zero p.now.1 ≡ true) }
 {
-    for p in pairs {
-        if p.1 != 0 {
-            return p.1 < 0;
+    if p.1 == 0 { None } else { Some(p.1 < 0) }
+}
+
+/// Whether the first coefficient that is not 0 is below 0.
+fn first_is_negative<S: Source>(source: &S) -> bool
+    ensures { result ≡ spec.first_is_negative (S.rest source.now 0 0) }
+{
+    let mut i = 0;
+    let mut j = 0;
+    while let Some(sum) = source.at(i, j) {
+        if let Some(is_negative) = sign(&sum.pair) {
+            return is_negative;
         }
+        i = sum.i;
+        j = sum.j;
     }
     false
 }
 
 /// Whether the normal form has the opposite signs.
-pub(crate) fn is_flipped(rel: Rel, pairs: &[(u32, i128)]) -> bool
-    ensures { result ≡ spec.is_flipped rel (nonzero pairs.now) }
+fn is_flipped<S: Source>(rel: Rel, source: &S) -> bool
+    ensures { result ≡ spec.is_flipped rel (S.rest source.now 0 0) }
 {
     match rel {
-        Rel::Eq => first_is_negative(pairs),
+        Rel::Eq => first_is_negative(source),
         Rel::Le | Rel::Lt => false,
     }
 }
 
 /// The number divided by the divisor, or by its opposite, if that is within the limit.
-pub(crate) fn divided(number: i128, divisor: u128, is_flipped: bool) -> Option<i64>
+fn divided(number: i128, divisor: u128, is_flipped: bool) -> Option<i64>
     requires { 0 < divisor }
     ensures some { IfSome result (λ r. (r ≡ int_div number (divisor_of is_flipped divisor)) × (unsigned_abs r ≤ limit)) }
     ensures none { IfNone result (limit < unsigned_abs (int_div number (divisor_of is_flipped divisor))) }
@@ -95,23 +111,53 @@ fn push_divided(
 }
 
 /// The coefficients divided by the divisor or by its opposite, or `Overflow` where one is out of range.
-pub(crate) fn divided_all(
+fn divided_all<S: Source>(
     alloc: Global,
-    pairs: &[(u32, i128)],
+    source: &S,
     divisor: u128,
     is_flipped: bool,
 ) -> Result<SmallVec<(u32, i64), INLINE>, RowFault>
     requires { 0 < divisor }
-    ensures value { IfOk result (λ v. v.items ≡ divided_pairs (divisor_of is_flipped divisor) (nonzero pairs.now)) }
+    ensures value { IfOk result (λ v. v.items ≡ divided_pairs (divisor_of is_flipped divisor) (S.rest source.now 0 0)) }
     ensures within { IfOk result (λ v. pairs_within v.items ≡ true) }
-    ensures overflow { result ≡ Err Overflow → pairs_within (divided_pairs (divisor_of is_flipped divisor) (nonzero pairs.now)) ≡ false }
+    ensures overflow { result ≡ Err Overflow → pairs_within (divided_pairs (divisor_of is_flipped divisor) (S.rest source.now 0 0)) ≡ false }
 {
     let mut quotients = SmallVec::new(alloc);
-    for p in pairs {
-        match push_divided(&mut quotients, p, divisor, is_flipped) {
+    let mut i = 0;
+    let mut j = 0;
+    while let Some(sum) = source.at(i, j) {
+        match push_divided(&mut quotients, &sum.pair, divisor, is_flipped) {
             Ok(()) => {}
             Err(fault) => return Err(fault),
         }
+        i = sum.i;
+        j = sum.j;
     }
     Ok(quotients)
+}
+
+/// The normal form of the row that has the pairs of the source, which is gone through twice: for the common
+/// divisor, and to divide.
+pub(crate) fn reduced<S: Source>(
+    alloc: Global,
+    rel: Rel,
+    source: &S,
+    constant: i128,
+) -> Result<Row, RowFault>
+    requires rising { IsRising (S.rest source.now 0 0) }
+    ensures value { IfOk result (λ r. r ≡ normal (row_of rel (S.rest source.now 0 0) constant)) }
+    ensures kept { IfOk result IsKept }
+    ensures overflow { result ≡ Err Overflow → is_within (normal (row_of rel (S.rest source.now 0 0) constant)) ≡ false }
+{
+    let divisor = joint(constant, source).max(1);
+    let is_flipped = is_flipped(rel, source);
+    let pairs = divided_all(alloc, source, divisor, is_flipped)?;
+    match divided(constant, divisor, is_flipped) {
+        Some(constant) => Ok(Row {
+            rel,
+            pairs,
+            constant,
+        }),
+        None => Err(RowFault::Overflow),
+    }
 }

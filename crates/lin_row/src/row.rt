@@ -5,8 +5,9 @@ ghost use Rattle.linear_model.specs.Forms.{combination, coefficient};
 ghost use Rattle.lin_row.specs.Rows.{row_of, nonzero, VariablesRise, IsKept};
 ghost use Rattle.lin_row.specs.declared.row.RowFault.TheVariants.{Overflow, NoMemory};
 
-use crate::combine::{combined, product_sum};
-use crate::reduce::{divided, divided_all, is_flipped, joint};
+use crate::combine::product_sum;
+use crate::reduce::reduced;
+use crate::source::{Given, Sums};
 use clp_model::Rel;
 use smallvec::SmallVec;
 use std::alloc::{AllocError, Global};
@@ -54,17 +55,7 @@ impl Row {
         ensures kept { IfOk result IsKept }
         ensures overflow { result ≡ Err Overflow → is_within (normal (row_of rel (nonzero pairs.now) constant)) ≡ false }
     {
-        let divisor = joint(constant, pairs).max(1);
-        let is_flipped = is_flipped(rel, pairs);
-        let pairs = divided_all(alloc, pairs, divisor, is_flipped)?;
-        match divided(constant, divisor, is_flipped) {
-            Some(constant) => Ok(Row {
-                rel,
-                pairs,
-                constant,
-            }),
-            None => Err(RowFault::Overflow),
-        }
+        reduced(alloc, rel, &Given { pairs }, constant)
     }
 
     /// a times this row and b times the other, under the relation and in normal form. It is `Overflow` exactly where
@@ -83,11 +74,14 @@ impl Row {
         ensures kept { IfOk result IsKept }
         ensures overflow { result ≡ Err Overflow → is_within (normal (combination rel a self.now b other.now)) ≡ false }
     {
+        let sums = Sums {
+            a,
+            first: self.pairs.as_slice(),
+            b,
+            second: other.pairs.as_slice(),
+        };
         let constant = product_sum(a, self.constant, b, other.constant);
-        match combined(alloc, a, self.pairs.as_slice(), b, other.pairs.as_slice()) {
-            Ok(pairs) => Row::make(alloc, rel, pairs.as_slice(), constant),
-            Err(AllocError) => Err(RowFault::NoMemory),
-        }
+        reduced(alloc, rel, &sums, constant)
     }
 
     /// How the sum compares with 0.

@@ -2,16 +2,20 @@ use Rattle.linear_model.specs.Normal.{divisor_of}
 use Rattle.lin_row.proofs.Nonzero.{one_more, within_more, past}
 use Rattle.lin_row.proofs.reduce.divided_all.Goals as goal
 
-pub loop-p-preserved : goal.loop-p-preserved
-loop-p-preserved c =
-    let h = c.in-Ok.ensures in
-    let d = divisor_of c.args.is_flipped c.args.divisor in
-    record {
-      so_far = one_more d c.args.pairs.now c.loop-p.p-index c.push_divided.new.into.items c.loop-p.quotients.items _ c.loop-p-test.true h.value c.loop-p.invariant.so_far;
-      within = within_more d c.args.pairs.now c.loop-p.p-index c.push_divided.new.into.items c.loop-p.quotients.items c.loop-p.quotients.items h.value h.within c.loop-p.invariant.within;
-    }
-
 pub returns-in-Err-clause-overflow : goal.returns-in-Err-clause-overflow
-returns-in-Err-clause-overflow c e =
-    past (divisor_of c.args.is_flipped c.args.divisor) c.args.pairs.now c.loop-p.p-index c.push_divided.new.into.items c.loop-p.quotients.items _ c.loop-p-test.true
-    (c.in-Err.ensures.overflow (cc)) c.loop-p.invariant.so_far
+returns-in-Err-clause-overflow g c e =
+    let s = c.in-Some.sum in
+    let rest = g.S.Source.rest c.args.source.now in
+    past (divisor_of c.args.is_flipped c.args.divisor) s.pair.0 s.pair.1 (rest c.loop-sum.i c.loop-sum.j) (rest s.i s.j) c.push_divided.new.into.items c.loop-sum.quotients.items _ c.in-Some.ensures.some
+    (c.in-Err.ensures.overflow (cc)) c.loop-sum.invariant.so_far
+
+pub loop-sum-preserved : goal.loop-sum-preserved
+loop-sum-preserved g c =
+    let s = c.in-Some.sum in
+    let rest = g.S.Source.rest c.args.source.now in
+    let d = divisor_of c.args.is_flipped c.args.divisor in
+    let h = c.in-Ok.ensures in
+    record {
+      so_far = one_more d s.pair.0 s.pair.1 (rest c.loop-sum.i c.loop-sum.j) (rest s.i s.j) c.push_divided.new.into.items c.loop-sum.quotients.items _ c.in-Some.ensures.some h.value c.loop-sum.invariant.so_far;
+      within = within_more d s.pair.0 s.pair.1 (rest c.loop-sum.i c.loop-sum.j) (rest s.i s.j) c.push_divided.new.into.items c.loop-sum.quotients.items c.loop-sum.quotients.items c.in-Some.ensures.some h.value h.within c.loop-sum.invariant.within;
+    }

@@ -1,10 +1,12 @@
-use Rattle.std.proofs.Common.{◌≡◌, ◌++◌, drop, true}
+use Rattle.std.proofs.Common.{◌≡◌, ◌++◌, true}
 use Rattle.linear_model.specs.Normal.{divided_pairs, divisor_of, pairs_within}
-use Rattle.lin_row.specs.Rows.{nonzero}
 use Rattle.lin_row.proofs.reduce.divided_all.Given as goal
 
-abbrev pub invariant-loop-p : goal.invariant-loop-p
-invariant-loop-p l = record {
-  so_far : l.quotients.items ++ divided_pairs (divisor_of l.is_flipped l.divisor) (nonzero (drop l.p-index l.pairs)) ≡ divided_pairs (divisor_of l.is_flipped l.divisor) (nonzero l.pairs);
+abbrev pub invariant-loop-sum : goal.invariant-loop-sum
+invariant-loop-sum g l = record {
+  so_far : l.quotients.items ++ divided_pairs (divisor_of l.is_flipped l.divisor) (g.S.Source.rest l.source l.i l.j) ≡ divided_pairs (divisor_of l.is_flipped l.divisor) (g.S.Source.rest l.source 0 0);
   within : pairs_within l.quotients.items ≡ true;
 }
+
+abbrev pub decreases-loop-sum : goal.decreases-loop-sum
+decreases-loop-sum g l = g.S.Source.steps l.source l.i l.j
