@@ -1,8 +1,9 @@
 -- Pairs whose coefficient is 0 change neither the joint divisor nor the first sign.
-use Rattle.std.proofs.Common.{◌≡◌, ℕ, zero, suc, ◌%◌, List, [], ◌∷◌, ◌++◌, Bool, true, false, append_assoc, arith, refl, sym, ◌∙◌, ap}
+use Rattle.std.proofs.Common.{◌≡◌, ℕ, zero, suc, ◌<◌, ◌≤◌, ◌%◌, length, List, [], ◌∷◌, ◌++◌, Bool, true, false, append_assoc, arith, refl, sym, ◌∙◌, ap}
 use Rattle.std.specs.Prelude.{unsigned_abs, int_lt, if◌then◌else◌}
 use Rattle.std.proofs.Math.IntN.{ℤ, pos, negsuc}
 use Rattle.std.proofs.lemmas.Bool.Decides.{nat_tests}
+use Rattle.std.proofs.lemmas.List.{length-append}
 use Rattle.linear_model.specs.Gcd.{gcd}
 use Rattle.linear_model.specs.Forms.{is_zero, with_pair}
 use Rattle.linear_model.specs.Normal.{joint_gcd, divided_pairs, pairs_within, first_is_negative}
@@ -66,3 +67,19 @@ module _ (d : ℤ) (v : ℕ) (c : ℤ) (left rest out old all : List (ℕ × ℤ
   past k g =
       let a : pairs_within (divided_pairs d left) ≡ false = ap pairs_within front ∙ (within_append here (divided_pairs d rest) ∙ rw k refl) in
       ap pairs_within (sym g) ∙ (within_append old (divided_pairs d left) ∙ rw a (and_false (pairs_within old)))
+
+length_divided : (d : ℤ) (ps : List (ℕ × ℤ)) → length (divided_pairs d ps) ≡ length ps
+length_divided d [] = refl
+length_divided d (p ∷ ps) = ap suc (length_divided d ps)
+
+-- where one more does not fit
+pub too_long : (d : ℤ) (v : ℕ) (c : ℤ) (left rest old whole : List (ℕ × ℤ)) (capacity : ℕ) → left ≡ with_pair v c rest → is_zero c ≡ false
+    → old ++ divided_pairs d left ≡ divided_pairs d whole → 4 ≤ capacity → capacity ≤ length old → 4 < length whole
+too_long d v c left rest old whole capacity e z g h k =
+    let a : left ≡ (v, c) ∷ rest = e ∙ ap (λ b. if b then rest else (v, c) ∷ rest) z in
+    let b : length left ≡ suc (length rest) = ap length a in
+    let m = ap length g in
+    let n = length-append old (divided_pairs d left) in
+    let o = length_divided d left in
+    let q = length_divided d whole in
+    omega arith

@@ -1,4 +1,4 @@
-ghost use Rattle.std.specs.Prelude.{◌≡◌, ◌≢◌, ◌≤◌, All, IfOk, IfErr, neg_ℤ, unsigned_abs};
+ghost use Rattle.std.specs.Prelude.{◌≡◌, ◌≢◌, ◌≤◌, All, IfOk, IfErr, IsOk, length, neg_ℤ, unsigned_abs};
 ghost use Rattle.clp_model.specs.declared.sort.Rel.TheVariants.{Eq};
 ghost use Rattle.linear_model.specs.Normal.{limit};
 ghost use Rattle.linear_model.specs.Changes as spec;
@@ -86,6 +86,7 @@ impl Row {
         ensures value { IfOk result (λ r. r ≡ spec.at_most self.now) }
         ensures kept { IfOk result IsKept }
         ensures fault { IfErr result (λ e. e ≡ NoMemory) }
+        ensures short { length self.now.pairs ≤ 4 → IsOk result }
     {
         match SmallVec::from_slice(alloc, self.pairs.as_slice()) {
             Ok(pairs) => Ok(Row {

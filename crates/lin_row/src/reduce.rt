@@ -1,10 +1,10 @@
-ghost use Rattle.std.specs.Prelude.{◌≡◌, ◌<◌, ◌≤◌, ◌++◌, [], ◌∷◌, true, false, pos, Err, IfOk, IfSome, IfNone, OnOk, unsigned_abs, int_div, int_lt};
+ghost use Rattle.std.specs.Prelude.{◌≡◌, ◌<◌, ◌≤◌, ◌++◌, [], ◌∷◌, true, false, pos, Err, IfOk, IfSome, IfNone, OnOk, length, unsigned_abs, int_div, int_lt};
 ghost use Rattle.linear_model.specs.Forms.{is_zero, with_pair, IsRising};
 ghost use Rattle.linear_model.specs.Gcd.{gcd};
 ghost use Rattle.linear_model.specs.Normal as spec;
 ghost use Rattle.linear_model.specs.Normal.{normal, is_within, joint_gcd, limit, divisor_of, divided_pairs, pairs_within};
 ghost use Rattle.lin_row.specs.Rows.{row_of, IsKept};
-ghost use Rattle.lin_row.specs.declared.row.RowFault.TheVariants.{Overflow};
+ghost use Rattle.lin_row.specs.declared.row.RowFault.TheVariants.{Overflow, NoMemory};
 
 use crate::euclid::gcd;
 use crate::row::{INLINE, Row, RowFault};
@@ -102,6 +102,8 @@ fn push_divided(
     ensures value { OnOk result (into.new.items ≡ into.old.items ++ divided_pairs (divisor_of is_flipped divisor) (with_pair p.now.0 p.now.1 [])) }
     ensures within { OnOk result (pairs_within (divided_pairs (divisor_of is_flipped divisor) (with_pair p.now.0 p.now.1 [])) ≡ true) }
     ensures overflow { result ≡ Err Overflow → pairs_within (divided_pairs (divisor_of is_flipped divisor) (with_pair p.now.0 p.now.1 [])) ≡ false }
+    ensures full { result ≡ Err NoMemory → (into.old.capacity ≤ length into.old.items) × (is_zero p.now.1 ≡ false) }
+    ensures capacity { into.old.capacity ≤ into.new.capacity }
 {
     if p.1 == 0 {
         return Ok(());
@@ -121,6 +123,7 @@ fn divided_all<S: Source>(
     ensures value { IfOk result (λ v. v.items ≡ divided_pairs (divisor_of is_flipped divisor) (S.rest source.now 0 0)) }
     ensures within { IfOk result (λ v. pairs_within v.items ≡ true) }
     ensures overflow { result ≡ Err Overflow → pairs_within (divided_pairs (divisor_of is_flipped divisor) (S.rest source.now 0 0)) ≡ false }
+    ensures long { result ≡ Err NoMemory → 4 < length (S.rest source.now 0 0) }
 {
     let mut quotients = SmallVec::new(alloc);
     let mut i = 0;
@@ -148,6 +151,7 @@ pub(crate) fn reduced<S: Source>(
     ensures value { IfOk result (λ r. r ≡ normal (row_of rel (S.rest source.now 0 0) constant)) }
     ensures kept { IfOk result IsKept }
     ensures overflow { result ≡ Err Overflow → is_within (normal (row_of rel (S.rest source.now 0 0) constant)) ≡ false }
+    ensures long { result ≡ Err NoMemory → 4 < length (S.rest source.now 0 0) }
 {
     let divisor = joint(constant, source).max(1);
     let is_flipped = is_flipped(rel, source);

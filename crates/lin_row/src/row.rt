@@ -1,4 +1,4 @@
-ghost use Rattle.std.specs.Prelude.{◌≡◌, ◌≤◌, false, All, IfOk, IfErr, Err, unsigned_abs};
+ghost use Rattle.std.specs.Prelude.{◌≡◌, ◌<◌, ◌≤◌, false, All, IfOk, IfErr, IsOk, Err, length, unsigned_abs};
 ghost use Rattle.clp_model.specs.Clauses as spec;
 ghost use Rattle.linear_model.specs.Normal.{normal, is_within, limit};
 ghost use Rattle.linear_model.specs.Forms.{combination, coefficient};
@@ -54,6 +54,7 @@ impl Row {
         ensures value { IfOk result (λ r. r ≡ normal (row_of rel (nonzero pairs.now) constant)) }
         ensures kept { IfOk result IsKept }
         ensures overflow { result ≡ Err Overflow → is_within (normal (row_of rel (nonzero pairs.now) constant)) ≡ false }
+        ensures long { result ≡ Err NoMemory → 4 < length (nonzero pairs.now) }
     {
         reduced(alloc, rel, &Given { pairs }, constant)
     }
@@ -73,6 +74,7 @@ impl Row {
         ensures value { IfOk result (λ r. r ≡ normal (combination rel a self.now b other.now)) }
         ensures kept { IfOk result IsKept }
         ensures overflow { result ≡ Err Overflow → is_within (normal (combination rel a self.now b other.now)) ≡ false }
+        ensures long { result ≡ Err NoMemory → 4 < length (combination rel a self.now b other.now).pairs }
     {
         let sums = Sums {
             a,
@@ -115,6 +117,7 @@ impl Row {
         ensures value { IfOk result (λ r. r ≡ self.now) }
         ensures kept { IfOk result IsKept }
         ensures fault { IfErr result (λ e. e ≡ NoMemory) }
+        ensures short { length self.now.pairs ≤ 4 → IsOk result }
     {
         match SmallVec::from_slice(alloc, self.pairs.as_slice()) {
             Ok(pairs) => Ok(Row {
