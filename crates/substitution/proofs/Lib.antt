@@ -3,3 +3,4 @@ pub mod Weighed
 pub mod Carried
 pub mod Built
 pub mod Meeting
+pub mod Kept
