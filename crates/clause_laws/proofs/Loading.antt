@@ -30,7 +30,7 @@ pub unsolved_clause_has_none : UnsolvedClauseHasNoInstance
 unsolved_clause_has_none c e a body i = unsolved_none c e a body i
 
 -- a solved clause has no equations, and the variables of its rows rise
-solved_shape : (c d : Clause) → solved_clause c ≡ Some d → (d.equations ≡ []) × HasRisingRows d
+pub solved_shape : (c d : Clause) → solved_clause c ≡ Some d → (d.equations ≡ []) × HasRisingRows d
 unfolding solved_clause
 solved_shape c d e = by (most_general_unifier (typed_equations c.sorts c.equations)) e
   where

@@ -26,7 +26,7 @@ module _ (f : ℕ → ℕ) (sort sort' : ℕ → Sort) (u u' : Valuation) where
   mutual
     unfolding mapped value_of variables
 
-    value_mapped : (t : Tree ℕ) → ((n : ℕ) → Among n (variables t) → variable_value u (f n) (sort (f n)) ≡ variable_value u' n (sort' n)) → value_of sort u (mapped f t) ≡ value_of sort' u' t
+    pub value_mapped : (t : Tree ℕ) → ((n : ℕ) → Among n (variables t) → variable_value u (f n) (sort (f n)) ≡ variable_value u' n (sort' n)) → value_of sort u (mapped f t) ≡ value_of sort' u' t
     value_mapped (Var n) same = same n first
     value_mapped (App' name shape args) same = ap (λ vs. Named name vs) (values_mapped args same)
 
@@ -36,7 +36,7 @@ module _ (f : ℕ → ℕ) (sort sort' : ℕ → Sort) (u u' : Valuation) where
         ap (λ v. AndValue v (row_values sort u (mapped_row f ts))) (value_mapped t (λ n m. same n (among_front n (variables t) (variables_in_row ts) m)))
         ∙ ap (λ vs. AndValue (value_of sort' u' t) vs) (values_mapped ts (λ n m. same n (among_back n (variables t) (variables_in_row ts) m)))
 
-  atoms_mapped : (ts : List (Tree ℕ)) → ((n : ℕ) → Among n (variables_in ts) → variable_value u (f n) (sort (f n)) ≡ variable_value u' n (sort' n)) → map (λ t. atom_of (value_of sort u t)) (mapped_all f ts) ≡ map (λ t. atom_of (value_of sort' u' t)) ts
+  pub atoms_mapped : (ts : List (Tree ℕ)) → ((n : ℕ) → Among n (variables_in ts) → variable_value u (f n) (sort (f n)) ≡ variable_value u' n (sort' n)) → map (λ t. atom_of (value_of sort u t)) (mapped_all f ts) ≡ map (λ t. atom_of (value_of sort' u' t)) ts
   atoms_mapped [] same = refl
   atoms_mapped (t ∷ ts) same =
       ap (λ v. atom_of v ∷ map (λ t. atom_of (value_of sort u t)) (mapped_all f ts)) (value_mapped t (λ n m. same n (among_front n (variables t) (variables_in ts) m)))

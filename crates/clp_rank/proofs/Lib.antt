@@ -1,11 +1,11 @@
-mod Splitting
-mod Total
-mod Starting
-mod Unfolding
-mod Folding
-mod Narrowing
-mod Subsuming
-mod Useless
-mod SameInstances
-mod Defining
-mod Least
+pub mod Splitting
+pub mod Total
+pub mod Starting
+pub mod Unfolding
+pub mod Folding
+pub mod Narrowing
+pub mod Subsuming
+pub mod Useless
+pub mod SameInstances
+pub mod Defining
+pub mod Least

@@ -1,0 +1,3 @@
+pub mod Joint
+pub mod Unfolding
+pub mod Merging
