@@ -9,7 +9,7 @@ use Rattle.clp_model.specs.Clauses.{Row}
 use Rattle.linear_model.specs.Forms.{coefficient}
 use Rattle.linear_model.specs.Certificates.{weighted_coefficient}
 use Rattle.linear_laws.proofs.Ring.{mul_zero}
-use Rattle.farkas_check.specs.Walk.{precedes, lesser, least_from, least_in_rows, next_variable}
+use Rattle.farkas_check.specs.Walk.{precedes, nearer, least_from, least_in_rows, next_variable}
 use Rattle.farkas_check.specs.Checks.{cancels_at, each_passes, each_row_passes, cancels}
 use Rattle.farkas_check.proofs.Sums.{both}
 
@@ -119,16 +119,16 @@ abbrev IsFrom : ℕ → Option ℕ → Type 0
 IsFrom from None = ⊤
 IsFrom from (Some v) = from ≤ v
 
-lesser_below : (from v w : ℕ) (found : Option ℕ) → Below (lesser from v found) w → Below found w
-lesser_below from v w None h = tt
-lesser_below from v w (Some u) h = by (nat_le from v && nat_lt v u) refl h
+nearer_below : (from v w : ℕ) (found : Option ℕ) → Below (nearer from v found) w → Below found w
+nearer_below from v w None h = tt
+nearer_below from v w (Some u) h = by (nat_le from v && nat_lt v u) refl h
   where
     by : (b : Bool) → (nat_le from v && nat_lt v u) ≡ b → Below (if b then Some v else Some u) w → w < u
     by true e h = let c = both (nat_le from v) (nat_lt v u) e in let d : v < u = grind (arith, nat_tests) in omega arith
     by false e h = h
 
-lesser_skips : (from v w : ℕ) (found : Option ℕ) → from ≤ w → Below (lesser from v found) w → nat_eq v w ≡ false
-lesser_skips from v w None l h = by (nat_le from v && true) refl h
+nearer_skips : (from v w : ℕ) (found : Option ℕ) → from ≤ w → Below (nearer from v found) w → nat_eq v w ≡ false
+nearer_skips from v w None l h = by (nat_le from v && true) refl h
   where
     by : (b : Bool) → (nat_le from v && true) ≡ b → Below (if b then Some v else None) w → nat_eq v w ≡ false
     by true e h = grind (arith, nat_tests)
@@ -137,15 +137,15 @@ lesser_skips from v w None l h = by (nat_le from v && true) refl h
         by_le : (b : Bool) → nat_le from v ≡ b → (b && true) ≡ false → nat_eq v w ≡ false
         by_le true f e = cc
         by_le false f e = grind (arith, nat_tests)
-lesser_skips from v w (Some u) l h = by (nat_le from v) (nat_lt v u) refl refl h
+nearer_skips from v w (Some u) l h = by (nat_le from v) (nat_lt v u) refl refl h
   where
     by : (b c : Bool) → nat_le from v ≡ b → nat_lt v u ≡ c → Below (if b && c then Some v else Some u) w → nat_eq v w ≡ false
     by true true e f h = grind (arith, nat_tests)
     by true false e f h = grind (arith, nat_tests)
     by false c e f h = grind (arith, nat_tests)
 
-lesser_from : (from v : ℕ) (found : Option ℕ) → IsFrom from found → IsFrom from (lesser from v found)
-lesser_from from v found h = by (nat_le from v) (precedes v found) refl
+nearer_from : (from v : ℕ) (found : Option ℕ) → IsFrom from found → IsFrom from (nearer from v found)
+nearer_from from v found h = by (nat_le from v) (precedes v found) refl
   where
     by : (b c : Bool) → nat_le from v ≡ b → IsFrom from (if b && c then Some v else found)
     by true true e = grind (arith, nat_tests)
@@ -154,18 +154,18 @@ lesser_from from v found h = by (nat_le from v) (precedes v found) refl
 
 least_below : (from : ℕ) (ps : List (ℕ × ℤ)) (found : Option ℕ) (w : ℕ) → Below (least_from from ps found) w → Below found w
 least_below from [] found w h = h
-least_below from (p ∷ ps) found w h = lesser_below from p.0 w found (least_below from ps (lesser from p.0 found) w h)
+least_below from (p ∷ ps) found w h = nearer_below from p.0 w found (least_below from ps (nearer from p.0 found) w h)
 
 least_skips : (from : ℕ) (ps : List (ℕ × ℤ)) (found : Option ℕ) (w : ℕ) → from ≤ w → Below (least_from from ps found) w → mentions w ps ≡ false
 least_skips from [] found w l h = refl
 least_skips from (p ∷ ps) found w l h =
-    let a = lesser_skips from p.0 w found l (least_below from ps (lesser from p.0 found) w h) in
-    let b = least_skips from ps (lesser from p.0 found) w l h in
+    let a = nearer_skips from p.0 w found l (least_below from ps (nearer from p.0 found) w h) in
+    let b = least_skips from ps (nearer from p.0 found) w l h in
     rw (a, b) refl
 
 least_is_from : (from : ℕ) (ps : List (ℕ × ℤ)) (found : Option ℕ) → IsFrom from found → IsFrom from (least_from from ps found)
 least_is_from from [] found h = h
-least_is_from from (p ∷ ps) found h = least_is_from from ps (lesser from p.0 found) (lesser_from from p.0 found h)
+least_is_from from (p ∷ ps) found h = least_is_from from ps (nearer from p.0 found) (nearer_from from p.0 found h)
 
 rows_below : (from : ℕ) (rows : List Row) (found : Option ℕ) (w : ℕ) → Below (least_in_rows from rows found) w → Below found w
 rows_below from [] found w h = h

@@ -7,5 +7,5 @@ abbrev pub part : ℤ → List ℤ → Part
 part k m = record { k = k; m = m }
 
 -- no number is above the limit
-abbrev pub is_within : Part → Bool
-is_within p = nat_le (unsigned_abs p.k) multiplier_limit && weights_within p.m
+abbrev pub part_within : Part → Bool
+part_within p = nat_le (unsigned_abs p.k) multiplier_limit && weights_within p.m

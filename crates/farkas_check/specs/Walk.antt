@@ -7,13 +7,13 @@ precedes v None = true
 precedes v (Some w) = nat_lt v w
 
 -- v, where it is not below `from` and less than what was found
-abbrev pub lesser : ℕ → ℕ → Option ℕ → Option ℕ
-lesser from v found = if nat_le from v && precedes v found then Some v else found
+abbrev pub nearer : ℕ → ℕ → Option ℕ → Option ℕ
+nearer from v found = if nat_le from v && precedes v found then Some v else found
 
 -- the least variable of the pairs that is not below `from`, or what was found where that is less
 abbrev pub least_from : ℕ → List (ℕ × ℤ) → Option ℕ → Option ℕ
 least_from from [] found = found
-least_from from (p ∷ ps) found = least_from from ps (lesser from p.0 found)
+least_from from (p ∷ ps) found = least_from from ps (nearer from p.0 found)
 
 abbrev pub least_in_rows : ℕ → List Row → Option ℕ → Option ℕ
 least_in_rows from [] found = found

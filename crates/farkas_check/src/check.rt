@@ -1,6 +1,5 @@
 ghost use Rattle.std.specs.Prelude.{◌≡◌, ◌≤◌, true, length, unsigned_abs, IfNone};
 ghost use Rattle.linear_model.specs.Forms.{IsRising};
-ghost use Rattle.linear_model.specs.Normal.{limit};
 ghost use Rattle.linear_model.specs.Chain.{multiplier_limit, weights_within};
 ghost use Rattle.farkas_check.specs.Checks as spec;
 

@@ -1,7 +1,7 @@
 ghost use Rattle.std.specs.Prelude.{◌≡◌, true, false, IfOk, IfErr, unsigned_abs, nat_le};
 ghost use Rattle.linear_model.specs.Certificates as spec;
 ghost use Rattle.linear_model.specs.Chain.{multiplier_limit, weights_within};
-ghost use Rattle.farkas_check.specs.Parts.{part, is_within};
+ghost use Rattle.farkas_check.specs.Parts.{part, part_within};
 ghost use Rattle.lin_row.specs.declared.row.RowFault.TheVariants.{NoMemory};
 
 use lin_row::RowFault;
@@ -23,7 +23,7 @@ impl Model for Part {
 
     ghost view = { λ p. part p.k p.m.items };
 
-    ghost invariant = { λ p. is_within (part p.k p.m.items) ≡ true };
+    ghost invariant = { λ p. part_within (part p.k p.m.items) ≡ true };
 }
 
 /// Whether the number is within the limit.
@@ -48,8 +48,8 @@ fn all_fit(numbers: &[i64]) -> bool
 impl Part {
     /// The part with these multipliers; they are handed back exactly where one, or k, is above the limit.
     pub fn make(k: i64, m: Vec<i64>) -> Result<Part, Vec<i64>>
-        ensures value { IfOk result (λ p. (p ≡ part k m.items) × (is_within p ≡ true)) }
-        ensures past { IfErr result (λ v. (v ≡ m) × (is_within (part k m.items) ≡ false)) }
+        ensures value { IfOk result (λ p. (p ≡ part k m.items) × (part_within p ≡ true)) }
+        ensures past { IfErr result (λ v. (v ≡ m) × (part_within (part k m.items) ≡ false)) }
     {
         if fits(k) && all_fit(&m) {
             Ok(Part { k, m })
@@ -61,7 +61,7 @@ impl Part {
     /// The multiplier of the target.
     pub fn k(&self) -> i64
         ensures value { result ≡ self.now.k }
-        ensures within { is_within self.now ≡ true }
+        ensures within { part_within self.now ≡ true }
     {
         self.k
     }
@@ -69,7 +69,7 @@ impl Part {
     /// The multipliers of the rows, in their order.
     pub fn multipliers(&self) -> &[i64]
         ensures value { result.now ≡ self.now.m }
-        ensures within { is_within self.now ≡ true }
+        ensures within { part_within self.now ≡ true }
     {
         self.m.as_slice()
     }

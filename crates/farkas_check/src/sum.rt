@@ -1,7 +1,7 @@
 ghost use Rattle.std.specs.Prelude.{◌≡◌, ◌≤◌, ◌*◌, ◌+◌, ◌*ℤ◌, ◌+ℤ◌, true, length, unsigned_abs};
 ghost use Rattle.linear_model.specs.Forms as forms;
 ghost use Rattle.linear_model.specs.Forms.{IsRising};
-ghost use Rattle.linear_model.specs.Normal.{limit, pairs_within};
+ghost use Rattle.linear_model.specs.Normal.{limit};
 ghost use Rattle.linear_model.specs.Chain.{multiplier_limit, weights_within};
 ghost use Rattle.linear_model.specs.Certificates as spec;
 

@@ -4,8 +4,8 @@ ghost use Rattle.farkas_check.specs.Walk as spec;
 use lin_row::Row;
 
 /// The variable, where it is not below `from` and less than what was found; else what was found.
-fn lesser(from: u64, variable: u32, found: Option<u32>) -> Option<u32>
-    ensures { result ≡ spec.lesser from variable found }
+fn nearer(from: u64, variable: u32, found: Option<u32>) -> Option<u32>
+    ensures { result ≡ spec.nearer from variable found }
 {
     let precedes = match found {
         Some(other) => variable < other,
@@ -24,7 +24,7 @@ fn least_from(from: u64, pairs: &[(u32, i64)], found: Option<u32>) -> Option<u32
 {
     let mut least = found;
     for p in pairs {
-        least = lesser(from, p.0, least);
+        least = nearer(from, p.0, least);
     }
     least
 }

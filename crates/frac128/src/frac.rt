@@ -1,8 +1,8 @@
-ghost use Rattle.std.specs.Prelude.{◌≡◌, ◌<◌, ◌≤◌, ◌*◌, ◌*ℤ◌, ◌+ℤ◌, ℕ, ℤ, pos, neg_ℤ, Bool, true, false, unsigned_abs, int_div, Result, Ok, Err};
+ghost use Rattle.std.specs.Prelude.{◌≡◌, ◌<◌, ◌≤◌, pos, neg_ℤ, true, unsigned_abs};
 ghost use Rattle.clp_rationals.specs.Fraction.{Fraction, IsLowest};
 ghost use Rattle.linear_model.specs.Normal.{limit};
 ghost use Rattle.frac_model.specs.Reduced as spec;
-ghost use Rattle.frac_model.specs.Results.{is_small, if_small, divided};
+ghost use Rattle.frac_model.specs.Results.{is_small, if_small, quotient_or_fault};
 
 use crate::wide::{LIMIT, cross_sum, divided, product};
 use frac_model::FracFault;
@@ -122,7 +122,7 @@ impl Frac {
     /// The quotient in lowest terms, TooLarge where a part of it is above the limit, or ZeroDivisor where the
     /// other fraction is 0.
     pub fn div(self, other: Frac) -> Result<Frac, FracFault>
-        ensures value { result ≡ divided self other }
+        ensures value { result ≡ quotient_or_fault self other }
     {
         if other.num == 0 {
             return Err(FracFault::ZeroDivisor);

@@ -15,5 +15,5 @@ abbrev pub if_small : Fraction → Result Fraction FracFault
 if_small f = if is_small f then Ok f else Err TooLarge
 
 -- the quotient, if there is one
-abbrev pub divided : Fraction → Fraction → Result Fraction FracFault
-divided f g = if is_zero g.num then Err ZeroDivisor else if_small (quotient f g)
+abbrev pub quotient_or_fault : Fraction → Fraction → Result Fraction FracFault
+quotient_or_fault f g = if is_zero g.num then Err ZeroDivisor else if_small (quotient f g)
