@@ -1,3 +1,4 @@
 pub mod Joint
 pub mod Unfolding
 pub mod Merging
+pub mod RowRules

@@ -50,10 +50,10 @@ module _ (ss ts : List Sort) (u w : Valuation) where
   abbrev Agree : List ℕ → Type 0
   Agree ns = (n : ℕ) → Among n ns → variable_value u n (sort_in ss n) ≡ variable_value w n (sort_in ts n)
 
-  same_value_of : (t : Tree ℕ) → Agree (variables t) → value_of (sort_in ss) u t ≡ value_of (sort_in ts) w t
+  pub same_value_of : (t : Tree ℕ) → Agree (variables t) → value_of (sort_in ss) u t ≡ value_of (sort_in ts) w t
   same_value_of t a = ap (value_of (sort_in ss) u) (sym (mapped_to_itself (λ n. n) t (λ n m. refl))) ∙ value_mapped (λ n. n) (sort_in ss) (sort_in ts) u w t a
 
-  same_grounds : (xs : List (Tree ℕ)) → Agree (variables_in xs) → map (ground_of ss u) xs ≡ map (ground_of ts w) xs
+  pub same_grounds : (xs : List (Tree ℕ)) → Agree (variables_in xs) → map (ground_of ss u) xs ≡ map (ground_of ts w) xs
   same_grounds xs a = ap (map (ground_of ss u)) (sym (all_mapped_to_themselves (λ n. n) xs (λ n m. refl))) ∙ atoms_mapped (λ n. n) (sort_in ss) (sort_in ts) u w xs a
 
 variables_of_part : (xs ys zs : List (Tree ℕ)) → xs ++ ys ≡ zs → (n : ℕ) → (Among n (variables_in xs) → Among n (variables_in zs)) × (Among n (variables_in ys) → Among n (variables_in zs))
@@ -70,13 +70,13 @@ variables_of_part xs ys zs e n = subst (λ (q : List (Tree ℕ)). (Among n (vari
     back [] ys a = a
     back (x ∷ xs) ys a = among_back n (variables x) (variables_in (xs ++ ys)) (back xs ys a)
 
-all_front : (u : Valuation) (xs ys : List Row) → All (RowHolds u) (xs ++ ys) → All (RowHolds u) xs
+pub all_front : (u : Valuation) (xs ys : List Row) → All (RowHolds u) (xs ++ ys) → All (RowHolds u) xs
 all_front u xs ys h = each_all (RowHolds u) xs (λ r m. all_each (RowHolds u) (xs ++ ys) h r (among_front r xs ys m))
 
 all_behind : (u : Valuation) (xs ys : List Row) → All (RowHolds u) (xs ++ ys) → All (RowHolds u) ys
 all_behind u xs ys h = each_all (RowHolds u) ys (λ r m. all_each (RowHolds u) (xs ++ ys) h r (among_back r xs ys m))
 
-all_both : (u : Valuation) (xs ys : List Row) → All (RowHolds u) xs → All (RowHolds u) ys → All (RowHolds u) (xs ++ ys)
+pub all_both : (u : Valuation) (xs ys : List Row) → All (RowHolds u) xs → All (RowHolds u) ys → All (RowHolds u) (xs ++ ys)
 all_both u xs ys a b = each_all (RowHolds u) (xs ++ ys) (λ r m. elim (among_either r xs ys m) [ inl k ↦ all_each (RowHolds u) xs a r k | inr k ↦ all_each (RowHolds u) ys b r k ])
 
 one_equation : (ss : List Sort) (u : Valuation) (e : Tree ℕ × Tree ℕ) → EquationHolds ss u e → All (EquationHolds ss u) (e ∷ [])

@@ -2,7 +2,7 @@
 //! each law is the contract of an empty function.
 #![tactic(auto)]
 
-ghost use Rattle.rule_laws.specs.Laws.{UnfoldingUnfolds, UnfoldingKeepsRank, MergeNarrows, MergeKeepsRank};
+ghost use Rattle.rule_laws.specs.Laws.{UnfoldingUnfolds, UnfoldingKeepsRank, MergeNarrows, MergeKeepsRank, AddedRowKeepsInstances, DroppedRowKeepsInstances, ProjectedClauseKeepsInstances, EquatedClauseKeepsInstances, FalseRowsHaveNoInstance, ReplacementKeepsRank, DeletionKeepsRank};
 
 /// Unfolding: each instance of the clause, with an instance of a live clause that serves its atom, is one of a
 /// resolvent, and back; so the rank is kept.
@@ -16,4 +16,22 @@ pub fn unfolding_keeps_rank()
 pub fn merge_keeps_rank()
     ensures record_of { MergeNarrows }
     ensures rank { MergeKeepsRank }
+{}
+
+/// The rules on constraints keep instances: a row that the rows entail is added, a row that the others entail is
+/// dropped, a variable that is in no atom is eliminated from the rows, a variable takes the place of one that the
+/// rows make equal to it. A clause whose rows have no solution has no instance.
+pub fn row_rules_keep_instances()
+    ensures added { AddedRowKeepsInstances }
+    ensures dropped { DroppedRowKeepsInstances }
+    ensures projected { ProjectedClauseKeepsInstances }
+    ensures equated { EquatedClauseKeepsInstances }
+    ensures no_solution { FalseRowsHaveNoInstance }
+{}
+
+/// Replacing a clause by the canonical form of one with the same instances keeps the rank, and so does deleting a
+/// clause that has none.
+pub fn row_rules_keep_rank()
+    ensures replaced { ReplacementKeepsRank }
+    ensures deleted { DeletionKeepsRank }
 {}
