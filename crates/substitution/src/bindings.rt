@@ -20,7 +20,8 @@ pub struct Bound {
     pub term: Term,
 }
 
-/// Bindings in the order in which they were made. Where a variable is bound again, the later binding counts.
+/// Bindings in the order in which they were made, which are found by their variables. Where a variable is bound again, the
+/// later binding counts.
 #[derive(Drop)]
 pub struct Bindings {
     list: Vec<Bound>,

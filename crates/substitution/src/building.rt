@@ -18,9 +18,9 @@ use std::alloc::Global;
 use std::collections::HashMap;
 use term_store::{Look, Store, Term, TermFault};
 
-/// The term in which each variable has its image. Each application of the store is made once, and stays where none of
-/// its arguments changes. `TooLarge` exactly where the size exceeds 4,096 or the depth 256: then no term of the store has
-/// changed.
+/// The term in which each variable has its image. Each application of the store is made once, however often it is met, and
+/// one none of whose arguments changes stays the term that it is. `TooLarge` exactly where the size of the result exceeds
+/// 4,096 or its depth 256: it comes before anything is made, so that the store is as it was.
 #[tactic(auto, using(crate::proofs::Weighed::not_large))]
 pub fn apply(store: &mut Store, s: &Subst, t: Term) -> Result<Term, TermFault>
     requires within { t < length store.old }

@@ -25,7 +25,9 @@ pub struct Subst {
 }
 
 impl Subst {
-    /// The substitution that carries out bindings one after another, the latest first.
+    /// The substitution that carries out bindings one after another, the latest first: the image of a variable is the
+    /// term of its last binding, with the images of the variables that were bound before it. Each size and depth is found
+    /// once, from the first binding to the last.
     #[tactic(auto, using(crate::proofs::Carried::term_within, crate::proofs::Carried::height_at_place))]
     pub fn in_turn(alloc: Global, store: &Store, bindings: Bindings) -> Result<Subst, NoMemory>
         requires terms { AreBound store.now bindings }
@@ -51,7 +53,8 @@ impl Subst {
         })
     }
 
-    /// The substitution that puts in the terms of bindings at once.
+    /// The substitution that puts in the terms of bindings at once: the image of a variable is the term of its last
+    /// binding, whose variables stay.
     #[tactic(auto, using(crate::proofs::Carried::term_within))]
     pub fn at_once(alloc: Global, store: &Store, bindings: Bindings) -> Result<Subst, NoMemory>
         requires { AreBound store.now bindings }
