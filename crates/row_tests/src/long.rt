@@ -1,6 +1,6 @@
 //! A row of 300 coefficients.
 
-use crate::table::is_numbered;
+use crate::table::renamed;
 use lin_row::{Rel, Row, RowFault};
 use std::alloc::Global;
 
@@ -36,14 +36,6 @@ fn backwards(alloc: Global) -> Result<Vec<u32>, RowFault> {
         }
     }
     Ok(numbers)
-}
-
-fn renamed(alloc: Global, row: &Row, numbers: &[u32]) -> Result<Row, RowFault> {
-    if is_numbered(row.pairs(), numbers.len()) {
-        row.rename(alloc, numbers)
-    } else {
-        Err(RowFault::NoMemory)
-    }
 }
 
 fn turned(row: Row) -> Row {

@@ -1,6 +1,6 @@
 //! Rows that are renamed.
 
-use crate::table::{HALF, LIMIT, Parts, Written, is_numbered, is_wanted, row_of};
+use crate::table::{HALF, LIMIT, Parts, Written, is_wanted, renamed, row_of};
 use lin_row::{Rel, Row, RowFault};
 use std::alloc::Global;
 
@@ -96,18 +96,17 @@ static CASES: [Case; 15] = [
     ((Rel::Le, [0, 0, 0, 0, 0], 1), &[], Ok((Rel::Le, &[], 1))),
 ];
 
-fn renamed(alloc: Global, case: &Case) -> Result<Row, RowFault> {
+fn made_and_renamed(alloc: Global, case: &Case) -> Result<Row, RowFault> {
     let row = row_of(alloc, &case.0)?;
-    if is_numbered(row.pairs(), case.1.len()) {
-        row.rename(alloc, case.1)
-    } else {
-        Err(RowFault::NoMemory)
-    }
+    renamed(alloc, &row, case.1)
 }
 
 #[test]
 fn renamings(rt: HostRuntime) {
     for (at, case) in CASES.iter().enumerate() {
-        assert!(rt; is_wanted(renamed(rt.alloc(), case), &case.2), "case {at}");
+        assert!(rt;
+            is_wanted(made_and_renamed(rt.alloc(), case), &case.2),
+            "case {at}"
+        );
     }
 }

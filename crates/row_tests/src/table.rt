@@ -42,7 +42,7 @@ pub(crate) fn is_wanted(made: Result<Row, RowFault>, wanted: &Result<Parts, RowF
 }
 
 /// Whether a table of so many numbers has one for each variable.
-pub(crate) fn is_numbered(pairs: &[(u32, i64)], count: usize) -> bool
+fn is_numbered(pairs: &[(u32, i64)], count: usize) -> bool
     ensures { result ≡ true → All (λ p. (0 < p.0) × (p.0 ≤ count)) pairs.now }
 {
     for p in pairs {
@@ -51,4 +51,13 @@ pub(crate) fn is_numbered(pairs: &[(u32, i64)], count: usize) -> bool
         }
     }
     true
+}
+
+/// The row under new numbers, of which there has to be one for each variable.
+pub(crate) fn renamed(alloc: Global, row: &Row, numbers: &[u32]) -> Result<Row, RowFault> {
+    if is_numbered(row.pairs(), numbers.len()) {
+        row.rename(alloc, numbers)
+    } else {
+        Err(RowFault::NoMemory)
+    }
 }
