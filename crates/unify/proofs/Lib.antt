@@ -2,3 +2,4 @@ pub mod Growing
 pub mod Entered
 pub mod ReadOut
 pub mod General
+pub mod Kept
