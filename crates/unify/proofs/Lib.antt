@@ -2,4 +2,3 @@ pub mod Growing
 pub mod Entered
 pub mod ReadOut
 pub mod General
-pub mod Kept

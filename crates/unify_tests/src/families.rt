@@ -42,7 +42,7 @@ fn families(rt: HostRuntime) -> Result<(), Fail> {
 }
 
 /// The last variable of a chain, after the unifier of the chain: the size that is found, or none where it is too large.
-#[tactic(auto, using(term_store::proofs::Keeping::keeps_within, unify::proofs::Kept::is_of_kept))]
+#[tactic(auto, using(term_store::proofs::Keeping::keeps_within, substitution::proofs::Kept::is_of_kept))]
 fn last_of_chain(alloc: Global, length: u32) -> Result<Option<u32>, TermFault>
     requires { length ≤ 1000000 }
 {

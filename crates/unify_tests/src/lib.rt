@@ -5,6 +5,8 @@
 #[cfg(test)]
 mod families;
 #[cfg(test)]
+mod patterns;
+#[cfg(test)]
 mod shapes;
 #[cfg(test)]
 mod tables;

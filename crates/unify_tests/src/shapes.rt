@@ -69,3 +69,24 @@ pub fn put_pairs(
     }
     Ok(pairs)
 }
+
+/// The left and the right terms of pairs.
+#[tactic(auto, using(term_store::proofs::Keeping::keeps_within, term_store::proofs::Keeping::keeps_in, term_store::proofs::Keeping::are_in_push))]
+pub fn put_sides(
+    alloc: Global,
+    store: &mut Store,
+    shapes: &[(Shape, Shape)],
+) -> Result<(Vec<Term>, Vec<Term>), TermFault>
+    ensures left { IfOk result (λ sides. AreIn store.new sides.0.items) }
+    ensures right { IfOk result (λ sides. AreIn store.new sides.1.items) }
+{
+    let mut lefts = Vec::new(alloc);
+    let mut rights = Vec::new(alloc);
+    for (left, right) in shapes {
+        let a = put(alloc, store, left)?;
+        lefts.push(a)?;
+        let b = put(alloc, store, right)?;
+        rights.push(b)?;
+    }
+    Ok((lefts, rights))
+}

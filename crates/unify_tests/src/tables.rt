@@ -140,7 +140,7 @@ static CASES: [Case; 30] = [
 ];
 
 /// Whether a term becomes another.
-#[tactic(auto, using(term_store::proofs::Keeping::keeps_within, term_store::proofs::Keeping::keeps_trans, unify::proofs::Kept::is_of_kept))]
+#[tactic(auto, using(term_store::proofs::Keeping::keeps_within, term_store::proofs::Keeping::keeps_trans, substitution::proofs::Kept::is_of_kept))]
 fn becomes(
     alloc: Global,
     store: &mut Store,
@@ -156,7 +156,8 @@ fn becomes(
     Ok(store.same(found, wanted))
 }
 
-fn all_become(
+/// Whether terms become others.
+pub fn all_become(
     alloc: Global,
     store: &mut Store,
     s: &Subst,
