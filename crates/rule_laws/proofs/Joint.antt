@@ -32,7 +32,7 @@ scaled_sum m g h (p ∷ ps) same =
     let c = mul_add_ℤ (pos m) (p.1 *ℤ h p.0) (sum_of h ps) in
     omega (arith, ints)
 
-scaled_row : (m : ℕ) → 0 < m → (v w : Valuation) (r : Row) → v.whole ≡ w.whole * m → ((n : ℕ) → Among n (row_variables r) → v.number n ≡ w.number n *ℤ pos m) → RowHolds v r ↔ RowHolds w r
+pub scaled_row : (m : ℕ) → 0 < m → (v w : Valuation) (r : Row) → v.whole ≡ w.whole * m → ((n : ℕ) → Among n (row_variables r) → v.number n ≡ w.number n *ℤ pos m) → RowHolds v r ↔ RowHolds w r
 scaled_row m up v w r whole numbers =
     let a = scaled_sum m v.number w.number r.pairs numbers in
     let b : r.constant *ℤ pos v.whole ≡ pos m *ℤ (r.constant *ℤ pos w.whole) =

@@ -82,11 +82,11 @@ all_both u xs ys a b = each_all (RowHolds u) (xs ++ ys) (λ r m. elim (among_eit
 one_equation : (ss : List Sort) (u : Valuation) (e : Tree ℕ × Tree ℕ) → EquationHolds ss u e → All (EquationHolds ss u) (e ∷ [])
 one_equation ss u e h = each_all (EquationHolds ss u) (e ∷ []) (λ x m. among_cases m (λ q. subst (EquationHolds ss u) (sym q) h) (λ k. elim k [ ]))
 
-none_hold : (c : Clause) → c.equations ≡ [] → (u : Valuation) → All (EquationHolds c.sorts u) c.equations
+pub none_hold : (c : Clause) → c.equations ≡ [] → (u : Valuation) → All (EquationHolds c.sorts u) c.equations
 none_hold c none u = All-same (EquationHolds c.sorts u) c.equations [] none (All-nil (EquationHolds c.sorts u))
 
 -- the value of an application, told by its ground atom
-same_named : (f g : ℕ → Sort) (u w : Valuation) (t s : Tree ℕ) → IsApplication t → IsApplication s → atom_of (value_of f u t) ≡ atom_of (value_of g w s) → value_of f u t ≡ value_of g w s
+pub same_named : (f g : ℕ → Sort) (u w : Valuation) (t s : Tree ℕ) → IsApplication t → IsApplication s → atom_of (value_of f u t) ≡ atom_of (value_of g w s) → value_of f u t ≡ value_of g w s
 unfolding value_of IsApplication
 same_named f g u w (Var n) s a b e = absurd a
 same_named f g u w (App' name shape args) (Var n) a b e = absurd b

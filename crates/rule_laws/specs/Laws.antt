@@ -1,15 +1,20 @@
 -- Each rule meets the record that the rank asks of it, and so keeps what is provable.
 use Rattle.std.specs.Prelude.{◌≡◌, ℕ, ◌<◌, List, [], ◌∷◌, length, remove, slice_index_or, Bool, Contains}
 use Rattle.clp_model.specs.declared.sort.Sort.TheVariants.{Num}
+use Rattle.clp_model.specs.declared.tree.Tree.{Tree}
+use Rattle.clp_model.specs.declared.predicate.Pred.{Pred}
 use Rattle.clp_model.specs.Trees.{variables_in}
 use Rattle.clp_model.specs.Clauses.{Clause, Row, sort_in}
 use Rattle.clp_model.specs.Values.{GroundAtom}
 use Rattle.clp_meaning.specs.Laws.{HaveSameInstances, without_atom}
-use Rattle.clp_rank.specs.Rules.{Unfolds, Narrows}
+use Rattle.clp_rank.specs.Ranked.{Ranked}
+use Rattle.clp_rank.specs.Rules.{Unfolds, Narrows, With}
 use Rattle.clp_rank.specs.Entries.{Entry, setting, RankedOver}
 use Rattle.clause_model.specs.Canonical.{canonical_form}
 use Rattle.linear_model.specs.Certificates.{Entails, Unsatisfiable}
 use Rattle.clause_laws.specs.Laws.{HasNoInstance}
+use Rattle.rule_laws.specs.Folding.{defined_in, IsFolding}
+use Rattle.rule_laws.specs.Dropping.{IsSubsumption, IsUseless, IsDefinition}
 use Rattle.rule_laws.specs.Rows.{with_row, without_row, projected, equated, equation_of, IsReplacement, IsDeletion}
 use Rattle.rule_laws.specs.Steps.{IsUnfolding, IsMerge}
 
@@ -47,3 +52,19 @@ ReplacementKeepsRank = (defined : GroundAtom → Bool) (base live next : List En
 
 abbrev pub DeletionKeepsRank : Type 0
 DeletionKeepsRank = (defined : GroundAtom → Bool) (base live next : List Entry) (k : Entry) → HasNoInstance k.clause → IsDeletion live next k → RankedOver defined base live → RankedOver defined base next
+
+-- ---- folding, deletion and definition
+abbrev pub FoldingKeepsRank : Type 0
+FoldingKeepsRank = (preds : List Pred) (base live next : List Entry) (k n : Entry) (folded : Clause) (s : ℕ → Tree ℕ) → IsFolding preds base live next k n folded s →
+    RankedOver (defined_in preds) base live → RankedOver (defined_in preds) base next
+
+abbrev pub SubsumptionKeepsRank : Type 0
+SubsumptionKeepsRank = (defined : GroundAtom → Bool) (base live next : List Entry) (k e : Entry) (s : ℕ → Tree ℕ) → IsSubsumption live next k e s → RankedOver defined base live → RankedOver defined base next
+
+abbrev pub UselessKeepsRank : Type 0
+UselessKeepsRank = (defined : GroundAtom → Bool) (set : List Pred) (base live next : List Entry) → IsUseless set live next → RankedOver defined base live → RankedOver defined base next
+
+-- the definition joins the base and the live clauses
+abbrev pub DefinitionKeepsRank : Type 0
+DefinitionKeepsRank = (known preds preds' : List Pred) (base live : List Entry) (n : Entry) → IsDefinition known preds preds' base live n → RankedOver (defined_in preds) base live →
+    Ranked (setting (defined_in preds')) (With (setting (defined_in preds)) (Contains base) n) (With (setting (defined_in preds)) (Contains live) n)

@@ -1,3 +1,5 @@
 pub mod Steps
 pub mod Laws
 pub mod Rows
+pub mod Folding
+pub mod Dropping

@@ -2,7 +2,7 @@
 //! each law is the contract of an empty function.
 #![tactic(auto)]
 
-ghost use Rattle.rule_laws.specs.Laws.{UnfoldingUnfolds, UnfoldingKeepsRank, MergeNarrows, MergeKeepsRank, AddedRowKeepsInstances, DroppedRowKeepsInstances, ProjectedClauseKeepsInstances, EquatedClauseKeepsInstances, FalseRowsHaveNoInstance, ReplacementKeepsRank, DeletionKeepsRank};
+ghost use Rattle.rule_laws.specs.Laws.{UnfoldingUnfolds, UnfoldingKeepsRank, MergeNarrows, MergeKeepsRank, AddedRowKeepsInstances, DroppedRowKeepsInstances, ProjectedClauseKeepsInstances, EquatedClauseKeepsInstances, FalseRowsHaveNoInstance, ReplacementKeepsRank, DeletionKeepsRank, FoldingKeepsRank, SubsumptionKeepsRank, UselessKeepsRank, DefinitionKeepsRank};
 
 /// Unfolding: each instance of the clause, with an instance of a live clause that serves its atom, is one of a
 /// resolvent, and back; so the rank is kept.
@@ -34,4 +34,23 @@ pub fn row_rules_keep_instances()
 pub fn row_rules_keep_rank()
     ensures replaced { ReplacementKeepsRank }
     ensures deleted { DeletionKeepsRank }
+{}
+
+/// Folding a marked clause keeps the rank: forwards the definition's instance has the folded atoms, and back whatever
+/// instance of the definition has the atom as its head gives an instance of the folded clause, since the images of
+/// the definition's internal variables stand nowhere else.
+pub fn folding_keeps_rank()
+    ensures { FoldingKeepsRank }
+{}
+
+/// Deleting a marked clause that another one covers keeps the rank, and so does deleting the clauses of predicates
+/// that nothing can prove.
+pub fn deletions_keep_rank()
+    ensures covered { SubsumptionKeepsRank }
+    ensures useless { UselessKeepsRank }
+{}
+
+/// A definition of a new predicate keeps the rank.
+pub fn definition_keeps_rank()
+    ensures { DefinitionKeepsRank }
 {}
