@@ -7,6 +7,7 @@ ghost use Rattle.linear_model.specs.Chain.{multiplier_limit, is_never, first_var
 ghost use Rattle.chain_items.specs.Sparse.{Below, at_most};
 ghost use Rattle.chain_items.specs.Items.{row_of, item_of, item_within, IsItem};
 ghost use Rattle.chain_items.specs.Keys.{row_hash};
+ghost use Rattle.lin_row.specs.Rows.{IsKept};
 ghost use Rattle.linear_model.specs.Normal.{normal};
 ghost use Rattle.chain_items.specs.declared.item.ItemFault.TheVariants.{Overflow, NoMemory};
 
@@ -97,6 +98,7 @@ impl Item {
     pub fn of_row(alloc: Global, row: &Row, place: u32, count: u32) -> Result<Item, ItemFault>
         requires { place < count }
         ensures value { IfOk result (λ i. i ≡ item_of row.now count ((place, pos 1) ∷ [])) }
+        ensures kept { IsKept row.now }
         ensures fault { IfErr result (λ e. e ≡ NoMemory) }
     {
         let pairs = SmallVec::from_slice(alloc, row.pairs()).map_err(|_| ItemFault::NoMemory)?;

@@ -1,0 +1,5 @@
+pub mod Table
+pub mod Adding
+pub mod Finding
+pub mod Capped
+pub mod Turning
