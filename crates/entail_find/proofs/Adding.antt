@@ -1,12 +1,10 @@
 -- Items that come one after another.
-use Rattle.std.proofs.Common.{append_assoc, map, ◌≡◌, ℕ, suc, ◌+◌, ◌<◌, ◌≤◌, List, [], ◌∷◌, ◌++◌, length, get_or, take, drop, Bool, true, false, ◌&&◌, arith, refl, sym, ◌∙◌, ap, subst}
-use Rattle.std.specs.Prelude.{not, nat_le, nat_lt, if◌then◌else◌}
+use Rattle.std.proofs.Common.{append_assoc, map, ◌≡◌, List, [], ◌∷◌, ◌++◌, length, Bool, true, false, ◌&&◌, arith, refl, sym, ◌∙◌, ap, subst}
 use Rattle.std.specs.List.{filter}
 use Rattle.std.proofs.lemmas.List.{append-nil}
 use Rattle.std.proofs.lemmas.List.Elements.{filter-append}
-use Rattle.clp_model.specs.Predicates.{with_element, distinct_after}
-use Rattle.linear_model.specs.Normal.{is_within, is_always}
-use Rattle.linear_model.specs.Items.{Item, same_normal, kept}
+use Rattle.linear_model.specs.Normal.{is_within}
+use Rattle.linear_model.specs.Items.{Item}
 use Rattle.linear_model.specs.Chain.{all_within, weights_within}
 use Rattle.chain_items.specs.Items.{item_within}
 use Rattle.entail_find.specs.Kept.{with_item, with_items, Adds}

@@ -1,13 +1,13 @@
 -- The table by which a repeat is found.
-use Rattle.std.proofs.Common.{◌≡◌, ◌≢◌, ℕ, zero, suc, ◌+◌, ◌-◌, ◌<◌, ◌≤◌, ◌/◌, ◌^◌, List, [], ◌∷◌, ◌++◌, length, get_or, map, set, Bool, true, false, arith, refl, sym, ◌∙◌, ap, subst, length-append, length-set, eqb-true}
-use Rattle.std.specs.Prelude.{nat_eq, nat_lt, All, if◌then◌else◌}
+use Rattle.std.proofs.Common.{◌≡◌, ◌≢◌, ℕ, suc, ◌+◌, ◌-◌, ◌<◌, ◌≤◌, ◌/◌, ◌^◌, List, [], ◌∷◌, ◌++◌, length, get_or, set, Bool, true, false, arith, refl, sym, ◌∙◌, ap, length-append, length-set, eqb-true}
+use Rattle.std.specs.Prelude.{nat_eq, nat_lt}
 use Rattle.std.specs.List.{list_any}
 use Rattle.std.proofs.Math.Seq.{get_or-append_seam}
 use Rattle.std.proofs.lemmas.List.{get_or_append_left, get_or-set_same, get_or-set_other, get_or-map, map-append}
 use Rattle.std.proofs.lemmas.List.Elements.{All-from_get_or}
 use Rattle.std.proofs.lemmas.List.Folds.{list_any_at, list_any_none}
 use Rattle.std.proofs.lemmas.Bool.Decides.{nat_tests}
-use Rattle.linear_model.specs.Normal.{normal, row_eq}
+use Rattle.linear_model.specs.Normal.{normal}
 use Rattle.linear_model.specs.Items.{Item, same_normal}
 use Rattle.lin_row.specs.OrderLaws.{rows_are}
 use Rattle.chain_items.specs.Keys.{row_hash}

@@ -1,13 +1,13 @@
 -- What a turn makes, by an equation or by bounds.
-use Rattle.std.proofs.Common.{◌≡◌, ℕ, zero, suc, ◌+◌, ◌<◌, List, [], ◌∷◌, ◌++◌, length, get_or, take, drop, map, add-one, Bool, true, false, not, ◌&&◌, arith, refl, sym, ◌∙◌, ap, subst}
-use Rattle.std.specs.Prelude.{All, Option, Some, None, int_lt, if◌then◌else◌}
+use Rattle.std.proofs.Common.{◌≡◌, ℕ, suc, ◌+◌, List, [], ◌∷◌, ◌++◌, take, drop, add-one, Bool, true, false, not, arith, refl, sym, ◌∙◌, ap, subst}
+use Rattle.std.specs.Prelude.{All, Some, None, int_lt, if◌then◌else◌}
 use Rattle.std.specs.List.{filter, remove}
 use Rattle.std.proofs.Math.IntN.{ℤ, pos, negsuc}
 use Rattle.std.proofs.lemmas.Int.{ints}
 use Rattle.std.proofs.lemmas.List.Elements.{All-nil, All-cons, All-head, All-tail, All-append, All-take, All-drop}
 use Rattle.linear_laws.proofs.Sums.{zero_is}
 use Rattle.linear_model.specs.Forms.{coefficient, is_zero}
-use Rattle.linear_model.specs.Elimination.{has, substituted, first_equation, eliminated_by}
+use Rattle.linear_model.specs.Elimination.{has, first_equation, eliminated_by}
 use Rattle.linear_model.specs.Items.{Item, item_row, joined, turn}
 use Rattle.linear_model.specs.Chain.{all_within}
 use Rattle.entail_find.specs.Kept.{Adds}

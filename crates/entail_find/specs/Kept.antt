@@ -1,5 +1,5 @@
 -- The items that a turn keeps, and the table by which a repeat is found.
-use Rattle.std.specs.Prelude.{◌≡◌, ℕ, ◌+◌, ◌-◌, ◌/◌, ◌<◌, ◌≤◌, ◌^◌, List, [], ◌∷◌, length, map, true, not, nat_lt, get_or, if◌then◌else◌}
+use Rattle.std.specs.Prelude.{◌≡◌, ℕ, ◌-◌, ◌/◌, ◌<◌, ◌≤◌, ◌^◌, List, [], ◌∷◌, length, map, true, nat_lt, get_or, if◌then◌else◌}
 use Rattle.clp_model.specs.Predicates.{with_element}
 use Rattle.linear_model.specs.Normal.{is_always, normal}
 use Rattle.linear_model.specs.Items.{Item, same_normal}

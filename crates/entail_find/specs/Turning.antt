@@ -1,7 +1,5 @@
 -- How a turn's items come in order.
-use Rattle.std.specs.Prelude.{ℕ, List, map, pos, not, int_lt}
-use Rattle.std.specs.List.{filter}
-use Rattle.linear_model.specs.Forms.{coefficient}
+use Rattle.std.specs.Prelude.{ℕ, List, map}
 use Rattle.linear_model.specs.Elimination.{substituted, bounded, bounded_by_each, without, lowers, uppers}
 use Rattle.linear_model.specs.Items.{Item, item_row, joined}
 

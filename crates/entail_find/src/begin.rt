@@ -10,7 +10,13 @@ use lin_row::Row;
 use std::alloc::Global;
 
 /// Puts a row last, with 1 as the multiplier at its own place.
-pub fn push_row(alloc: Global, items: &mut Vec<Item>, row: &Row, place: u32, count: u32) -> Result<(), ItemFault>
+pub fn push_row(
+    alloc: Global,
+    items: &mut Vec<Item>,
+    row: &Row,
+    place: u32,
+    count: u32,
+) -> Result<(), ItemFault>
     requires { place < count }
     ensures value { OnOk result (items.new.items ≡ items.old.items ++ item_of row.now count ((place, pos 1) ∷ []) ∷ []) }
     ensures rising { IsRising row.now.pairs }

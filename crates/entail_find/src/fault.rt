@@ -29,6 +29,20 @@ impl From<ItemFault> for FindFault {
     }
 }
 
+impl From<RowFault> for FindFault {
+    ghost use Rattle.std.specs.Prelude.{◌≡◌};
+    ghost use Rattle.entail_find.specs.Answers.{of_row_fault};
+
+    ghost from_gives = { λ f e. e ≡ of_row_fault f };
+
+    fn from(fault: RowFault) -> FindFault {
+        match fault {
+            RowFault::Overflow => FindFault::Overflow,
+            RowFault::NoMemory => FindFault::NoMemory,
+        }
+    }
+}
+
 impl From<AllocError> for FindFault {
     ghost from_gives = { λ _ e. e ≡ NoMemory };
 

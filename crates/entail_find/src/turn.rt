@@ -27,7 +27,13 @@ fn keep(into: &mut Kept, item: Item) -> Result<(), ItemFault>
 }
 
 /// Adds what becomes of an item by an equation that has the variable.
-fn substitute(alloc: Global, into: &mut Kept, variable: u32, equation: &Item, item: Item) -> Result<(), ItemFault>
+fn substitute(
+    alloc: Global,
+    into: &mut Kept,
+    variable: u32,
+    equation: &Item,
+    item: Item,
+) -> Result<(), ItemFault>
     requires has { elimination.has variable equation.now.row ≡ true }
     requires counts { length item.m ≡ length equation.now.m }
     ensures value { OnOk result (Adds into.old (elimination.substituted item_row joined variable equation.now item ∷ []) into.new) }
@@ -41,7 +47,13 @@ fn substitute(alloc: Global, into: &mut Kept, variable: u32, equation: &Item, it
 }
 
 /// Adds what becomes of each item by an equation that has the variable.
-fn substitute_each(alloc: Global, into: &mut Kept, variable: u32, equation: &Item, items: Vec<Item>) -> Result<(), ItemFault>
+fn substitute_each(
+    alloc: Global,
+    into: &mut Kept,
+    variable: u32,
+    equation: &Item,
+    items: Vec<Item>,
+) -> Result<(), ItemFault>
     ghost count: { ℕ }
     requires has { elimination.has variable equation.now.row ≡ true }
     requires equation_count { length equation.now.m ≡ count }
@@ -82,7 +94,12 @@ fn sort(into: &mut Kept, bounds: &mut Bounds, variable: u32, item: Item) -> Resu
 }
 
 /// Adds the items that don't have the variable, and gives its bounds.
-fn sort_each(alloc: Global, into: &mut Kept, variable: u32, items: Vec<Item>) -> Result<Bounds, ItemFault>
+fn sort_each(
+    alloc: Global,
+    into: &mut Kept,
+    variable: u32,
+    items: Vec<Item>,
+) -> Result<Bounds, ItemFault>
     ensures value { OnOk result (Adds into.old (spec.others_of variable items.items) into.new) }
     ensures lowers { IfOk result (λ b. b.lowers.items ≡ spec.lowers_of variable items.items) }
     ensures uppers { IfOk result (λ b. b.uppers.items ≡ spec.uppers_of variable items.items) }
@@ -100,7 +117,13 @@ fn sort_each(alloc: Global, into: &mut Kept, variable: u32, items: Vec<Item>) ->
 }
 
 /// Adds what a lower and an upper bound make.
-fn pair(alloc: Global, into: &mut Kept, variable: u32, lower: &Item, upper: &Item) -> Result<(), ItemFault>
+fn pair(
+    alloc: Global,
+    into: &mut Kept,
+    variable: u32,
+    lower: &Item,
+    upper: &Item,
+) -> Result<(), ItemFault>
     requires lower_has { elimination.has variable lower.now.row ≡ true }
     requires upper_has { elimination.has variable upper.now.row ≡ true }
     requires counts { length lower.now.m ≡ length upper.now.m }
@@ -112,7 +135,13 @@ fn pair(alloc: Global, into: &mut Kept, variable: u32, lower: &Item, upper: &Ite
 }
 
 /// Adds what a lower bound makes with each upper bound.
-fn pair_with_each(alloc: Global, into: &mut Kept, variable: u32, lower: &Item, uppers: &[Item]) -> Result<(), ItemFault>
+fn pair_with_each(
+    alloc: Global,
+    into: &mut Kept,
+    variable: u32,
+    lower: &Item,
+    uppers: &[Item],
+) -> Result<(), ItemFault>
     ghost count: { ℕ }
     requires lower_has { elimination.has variable lower.now.row ≡ true }
     requires uppers_have { All (λ u. elimination.has variable u.row ≡ true) uppers.now }
@@ -128,7 +157,13 @@ fn pair_with_each(alloc: Global, into: &mut Kept, variable: u32, lower: &Item, u
 }
 
 /// Adds what each lower bound makes with each upper bound.
-fn pair_each(alloc: Global, into: &mut Kept, variable: u32, lowers: &[Item], uppers: &[Item]) -> Result<(), ItemFault>
+fn pair_each(
+    alloc: Global,
+    into: &mut Kept,
+    variable: u32,
+    lowers: &[Item],
+    uppers: &[Item],
+) -> Result<(), ItemFault>
     ghost count: { ℕ }
     requires lowers_have { All (λ l. elimination.has variable l.row ≡ true) lowers.now }
     requires uppers_have { All (λ u. elimination.has variable u.row ≡ true) uppers.now }
@@ -169,7 +204,12 @@ fn equation_place(items: &[Item], variable: u32) -> Option<usize>
 }
 
 /// Adds all items of the turn in order. It is `Overflow` exactly where one is out of its ranges.
-fn make_items(alloc: Global, into: &mut Kept, variable: u32, items: Vec<Item>) -> Result<(), ItemFault>
+fn make_items(
+    alloc: Global,
+    into: &mut Kept,
+    variable: u32,
+    items: Vec<Item>,
+) -> Result<(), ItemFault>
     ghost count: { ℕ }
     requires { HaveMultipliers count items.items }
     ensures value { OnOk result (Adds into.old (turn variable items.items) into.new) }

@@ -1,6 +1,6 @@
 use Rattle.linear_model.specs.Items.{Item}
 use Rattle.linear_model.specs.Elimination.{has}
-use Rattle.std.proofs.Common.{true, subst, ◌≡◌, sym, ap, ◌∙◌, get_or, take, drop, ◌++◌, ◌+◌}
+use Rattle.std.proofs.Common.{true, subst, ◌≡◌, sym, ap, ◌∙◌}
 use Rattle.std.specs.Prelude.{Some}
 use Rattle.std.specs.List.{remove}
 use Rattle.std.proofs.lemmas.List.{get_or_read}

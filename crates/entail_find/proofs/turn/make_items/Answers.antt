@@ -1,11 +1,10 @@
-use Rattle.std.proofs.Common.{◌≡◌, ◌<◌, List, length, get_or, true, pos, sym, ◌∙◌, ap, subst}
-use Rattle.std.specs.Prelude.{All, None, int_lt}
+use Rattle.std.proofs.Common.{◌≡◌, ◌<◌, List, length, get_or, true, pos, sym, ◌∙◌, subst}
+use Rattle.std.specs.Prelude.{None, int_lt}
 use Rattle.std.proofs.lemmas.List.Elements.{All-get_or, All-same}
 use Rattle.std.proofs.lemmas.Result.{on_ok_weaker}
 use Rattle.linear_model.specs.Forms.{coefficient}
 use Rattle.linear_model.specs.Elimination.{has, first_equation}
 use Rattle.linear_model.specs.Items.{Item, item_row}
-use Rattle.entail_find.specs.Turning.{lowers_of, uppers_of}
 use Rattle.entail_find.proofs.Turning.{all_passed, all_left, all_removed, lower_has, upper_has, by_bounds_after, by_bounds_outside}
 use Rattle.entail_find.proofs.turn.make_items.Goals as goal
 

@@ -1,7 +1,6 @@
-use Rattle.std.proofs.Common.{◌≡◌, ◌+◌, List, [], drop, false, sym, subst, ap, ◌∙◌}
+use Rattle.std.proofs.Common.{◌≡◌, ◌+◌, drop, false, sym, subst}
 use Rattle.std.proofs.lemmas.List.{drop_all}
 use Rattle.std.proofs.lemmas.Result.{err_from_is_err_and}
-use Rattle.linear_model.specs.Items.{Item}
 use Rattle.linear_model.specs.Chain.{all_within}
 use Rattle.entail_find.specs.Kept.{Adds}
 use Rattle.entail_find.specs.Turning.{with_each, by_bounds}

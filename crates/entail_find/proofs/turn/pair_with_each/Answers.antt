@@ -1,7 +1,7 @@
 use Rattle.std.proofs.Common.{◌+◌, drop}
 use Rattle.std.proofs.lemmas.List.{drop_all}
 use Rattle.linear_model.specs.Elimination.{bounded}
-use Rattle.linear_model.specs.Items.{Item, item_row, joined}
+use Rattle.linear_model.specs.Items.{item_row, joined}
 use Rattle.entail_find.specs.Turning.{with_each}
 use Rattle.entail_find.proofs.Adding.{mapped_next, mapped_end, mapped_outside_rest}
 use Rattle.entail_find.proofs.Finding.{from_here}

@@ -1,11 +1,10 @@
-use Rattle.std.proofs.Common.{◌≡◌, List, [], not, pos, arith, length}
+use Rattle.std.proofs.Common.{not, pos, arith}
 use Rattle.std.specs.Prelude.{int_lt}
 use Rattle.std.specs.Vec.Iter.{into_iter_items}
 use Rattle.linear_model.specs.Forms.{coefficient}
 use Rattle.linear_model.specs.Elimination.{has}
-use Rattle.linear_model.specs.Items.{Item, item_row}
-use Rattle.entail_find.specs.Turning.{others_of, lowers_of, uppers_of}
-use Rattle.entail_find.proofs.Adding.{filtered_next, filtered_end, filtered_more, filtered_all, none_left}
+use Rattle.entail_find.specs.Turning.{others_of}
+use Rattle.entail_find.proofs.Adding.{filtered_next, filtered_end, filtered_more, none_left}
 use Rattle.entail_find.proofs.turn.sort_each.Goals as goal
 
 pub loop-item-preserved : goal.loop-item-preserved

@@ -1,4 +1,4 @@
-use Rattle.std.proofs.Common.{◌≡◌, ◌≤◌, ◌<◌, List, [], length, arith, subst, sym, ap}
+use Rattle.std.proofs.Common.{[], arith, subst, sym}
 use Rattle.linear_model.specs.Items.{turn}
 use Rattle.entail_find.specs.Kept.{Adds}
 use Rattle.entail_find.proofs.Capped.{few_kept, many_kept}

@@ -1,9 +1,9 @@
-use Rattle.std.proofs.Common.{◌≡◌, ℕ, ◌+◌, ◌-◌, ◌<◌, ◌≤◌, length, get_or, false, true, arith, sym, ◌∙◌, ap, subst}
+use Rattle.std.proofs.Common.{◌≡◌, ◌-◌, ◌<◌, ◌≤◌, length, get_or, false, arith, sym, ◌∙◌, ap, subst}
 use Rattle.std.proofs.lemmas.List.{get_or_read}
 use Rattle.std.specs.List.{list_any}
 use Rattle.linear_model.specs.Items.{Item, same_normal}
 use Rattle.entail_find.specs.Kept.{bucket, buckets}
-use Rattle.entail_find.proofs.Table.{begins_within, begins_none, step_less, step_in, step_none, none_same, one_same, length_buckets}
+use Rattle.entail_find.proofs.Table.{begins_within, begins_none, step_in, step_none, none_same, length_buckets}
 use Rattle.entail_find.proofs.kept.Kept.has_same.Goals as goal
 
 pub loop-end-init : goal.loop-end-init

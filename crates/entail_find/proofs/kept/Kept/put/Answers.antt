@@ -1,4 +1,4 @@
-use Rattle.std.proofs.Common.{◌≡◌, ℕ, ◌+◌, ◌<◌, length, get_or, arith, sym, ◌∙◌, ap, subst, set, [], ◌∷◌, ◌++◌}
+use Rattle.std.proofs.Common.{◌≡◌, ◌+◌, ◌<◌, length, get_or, arith, sym, ◌∙◌, ap, subst, set, [], ◌∷◌, ◌++◌}
 use Rattle.std.proofs.lemmas.List.{get_or_read}
 use Rattle.entail_find.specs.Kept as spec
 use Rattle.entail_find.proofs.Table.{table_put, buckets_more, length_buckets}
