@@ -1,0 +1,12 @@
+pub mod Places
+pub mod Numbers
+pub mod Repeats
+pub mod Tables
+pub mod Equal
+pub mod Atoms
+pub mod RowForms
+pub mod Counts
+pub mod Terms
+pub mod Made
+pub mod Kept
+pub mod Without

@@ -1,0 +1,9 @@
+use Rattle.std.proofs.Common.{◌≡◌, ◌+◌, ◌≤◌, drop}
+use Rattle.clp_model.specs.Canonical.{rows_size}
+use Rattle.clause_store.proofs.rows.are_above.Given as goal
+
+abbrev pub invariant-loop-row : goal.invariant-loop-row
+invariant-loop-row l = record {
+  size : l.size + rows_size (drop l.row-index l.rows) ≡ rows_size l.rows;
+  small : l.size ≤ l.most;
+}
