@@ -1,5 +1,5 @@
 -- The limits of a clause in a store, by the counts of its terms and rows.
-use Rattle.std.proofs.Common.{◌≡◌, ℕ, ◌+◌, ◌<◌, ◌≤◌, inl, inr, Bool, true, false, ◌||◌, cond, nat_lt, List, [], ◌∷◌, ◌++◌, length, map, Option, Some, None, Ok, Err, All, refl, ap, ◌∙◌, sym, subst, arith}
+use Rattle.std.proofs.Common.{◌≡◌, ℕ, ◌+◌, ◌<◌, ◌≤◌, inl, inr, Bool, true, false, ◌||◌, cond, nat_lt, List, [], ◌∷◌, ◌++◌, length, Option, Some, None, Ok, Err, All, refl, ap, ◌∙◌, sym, subst, arith}
 use Rattle.std.specs.Prelude.{not, if◌then◌else◌}
 use Rattle.std.proofs.lemmas.Bool.{cond-true, cond-false, ltb-true, ltb-false, lt-ltb, le-ltb, or_left, or_right, or_from, or_parts, false_from_ne_true}
 use Rattle.std.proofs.lemmas.List.{length-map}
@@ -15,11 +15,11 @@ use Rattle.clp_model.proofs.Membership.{Among, among_front, among_back, distinct
 use Rattle.clp_model.proofs.RenamedTrees.{total_size_mapped, greatest_depth_mapped, length_mapped}
 use Rattle.linear_model.specs.Elimination.{cleaned}
 use Rattle.clause_model.specs.Variables.{rows_variables, variables_by_first_occurrence}
-use Rattle.clause_model.specs.Canonical.{Overflow, TooLarge, canonical_form, limit_past, unless_past, new_clause, all_within}
+use Rattle.clause_model.specs.Canonical.{Overflow, TooLarge, canonical_form, limit_past, unless_past, new_clause}
 use Rattle.clause_laws.proofs.Written.{written}
 use Rattle.lin_row.specs.Rows.{IsKept}
 use Rattle.term_store.specs.Trees.{trees_at, IsOver}
-use Rattle.clause_store.specs.Stored.{number_of, atoms_at, clause_of, IsLarge, AreParts}
+use Rattle.clause_store.specs.Stored.{number_of, atoms_at, clause_of, IsLarge}
 use Rattle.clause_store.proofs.RowForms.{cleaned_are_kept, within_kept, written_size}
 
 pub length_trees_at : (store : List (Tree Variable)) (terms : List ℕ) → length (trees_at store terms) ≡ length terms

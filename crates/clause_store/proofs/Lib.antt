@@ -4,6 +4,7 @@ pub mod Repeats
 pub mod Tables
 pub mod Equal
 pub mod Atoms
+pub mod Escapes
 pub mod RowForms
 pub mod Counts
 pub mod Terms

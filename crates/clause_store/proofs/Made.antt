@@ -1,5 +1,5 @@
 -- A clause whose terms and rows were renamed.
-use Rattle.std.proofs.Common.{◌≡◌, ℕ, ◌+◌, ◌<◌, length, get_or, nat_eq, inl, inr, ◌≤◌, ◌++◌, List, [], ◌∷◌, map, All, Contains, Option, None, Ok, refl, ap, ◌∙◌, sym, subst, arith}
+use Rattle.std.proofs.Common.{◌≡◌, ℕ, ◌+◌, ◌<◌, length, get_or, nat_eq, inl, inr, ◌≤◌, ◌++◌, List, [], ◌∷◌, map, All, Contains, None, refl, ap, ◌∙◌, sym, subst, arith}
 use Rattle.std.proofs.lemmas.List.{length-map}
 use Rattle.std.proofs.lemmas.List.Elements.{All-from_recursion, recursion_from_All}
 use Rattle.std.specs.List.{AllByRecursion}

@@ -1,21 +1,21 @@
 -- Rows that are cleaned and written in new numbers.
-use Rattle.std.proofs.Common.{◌≡◌, ℕ, suc, ◌+◌, ◌<◌, ◌≤◌, List, [], ◌∷◌, ◌++◌, length, map, take, drop, get_or, nat_eq, All, Result, IfOk, Bool, true, false, refl, ap, ◌∙◌, sym, subst, arith, add-one, eq-eqb, inl, inr}
+use Rattle.std.proofs.Common.{◌≡◌, ℕ, suc, ◌+◌, ◌<◌, ◌≤◌, List, [], ◌∷◌, length, map, drop, get_or, All, Result, IfOk, Bool, true, false, refl, ap, ◌∙◌, sym, subst, arith, add-one, inl, inr}
 use Rattle.std.specs.Prelude.{not, nat_lt, if◌then◌else◌}
 use Rattle.std.specs.List.{filter}
 use Rattle.std.proofs.Math.Seq.{drop-cons}
 use Rattle.std.proofs.Math.IntN.{ℤ, pos, ◌+ℤ◌, ◌*ℤ◌}
 use Rattle.std.proofs.lemmas.Int.{ints}
-use Rattle.std.proofs.lemmas.Bool.{ltb-true, ltb-false}
+use Rattle.std.proofs.lemmas.Bool.{ltb-false}
 use Rattle.std.proofs.lemmas.List.{length-map}
 use Rattle.clp_model.specs.declared.sort.Sort.{Sort}
-use Rattle.clp_model.specs.declared.sort.Sort.TheVariants.{Any, Num}
+use Rattle.clp_model.specs.declared.sort.Sort.TheVariants.{Any}
 use Rattle.clp_model.specs.declared.sort.Rel.TheVariants.{Eq}
 use Rattle.clp_model.specs.Clauses.{Row, sort_in}
 use Rattle.clp_model.specs.Predicates.{with_element, distinct_after}
 use Rattle.clp_model.specs.Canonical.{place_in, rows_size}
 use Rattle.clp_model.proofs.Membership.{Among, first, next, among_front, among_back, among_either, at_place}
 use Rattle.linear_model.specs.Forms.{Above, IsRising, is_zero, with_pair, scaled, merged, combined}
-use Rattle.linear_model.specs.Normal.{normal, IsNormal, is_always, row_eq, is_within}
+use Rattle.linear_model.specs.Normal.{normal, is_always, row_eq, is_within}
 use Rattle.linear_model.specs.Changes.{renamed, renamed_pairs}
 use Rattle.linear_model.specs.Elimination.{cleaned}
 use Rattle.linear_laws.proofs.Renamed.{rising_renamed}
@@ -23,15 +23,14 @@ use Rattle.linear_laws.proofs.Lists.{mapped_out}
 use Rattle.lin_row.specs.Rows.{IsKept}
 use Rattle.unify_laws.proofs.Solved.{among_cases}
 use Rattle.clause_model.specs.Variables.{row_variables, rows_variables}
-use Rattle.clause_model.specs.Canonical.{all_within, HasRisingRows}
+use Rattle.clause_model.specs.Canonical.{all_within}
 use Rattle.clause_laws.proofs.Rows.{all_each, each_all, among_rows}
-use Rattle.clause_laws.proofs.Distinct.{AreDistinct}
 use Rattle.clause_laws.proofs.Renaming.{IsInjectiveOn, variables_normal}
 use Rattle.clause_laws.proofs.Written.{written, written_from, written_rises, written_normal, written_stays}
 use Rattle.clause_laws.proofs.Clean.{cleaned_has}
 use Rattle.clause_laws.proofs.Again.{place_apart}
 use Rattle.clause_laws.proofs.NewClause.{written_within}
-use Rattle.clause_store.specs.Stored.{HasSort, IsNum}
+use Rattle.clause_store.specs.Stored.{IsNum}
 use Rattle.clause_store.proofs.Places.{place_positive, place_within, place_in_order}
 
 -- ---- rows that are kept

@@ -1,2 +1,4 @@
 pub mod Source
+pub mod Faults
 pub mod Stored
+pub mod Names

@@ -2,6 +2,7 @@ ghost use Rattle.std.specs.Prelude.{◌≡◌};
 ghost use Rattle.clause_store.specs.declared.fault.ClauseFault.TheVariants.{NoMemory};
 
 use clp_model::Limit;
+use lin_row::RowFault;
 use std::alloc::AllocError;
 use term_store::NoMemory;
 
@@ -28,5 +29,19 @@ impl From<NoMemory> for ClauseFault {
 
     fn from(_e: NoMemory) -> ClauseFault {
         ClauseFault::NoMemory
+    }
+}
+
+impl From<RowFault> for ClauseFault {
+    ghost use Rattle.std.specs.Prelude.{◌≡◌};
+    ghost use Rattle.clause_store.specs.Faults.{fault_of};
+
+    ghost from_gives = { λ f e. e ≡ fault_of f };
+
+    fn from(fault: RowFault) -> ClauseFault {
+        match fault {
+            RowFault::Overflow => ClauseFault::Overflow,
+            RowFault::NoMemory => ClauseFault::NoMemory,
+        }
     }
 }

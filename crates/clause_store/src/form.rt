@@ -1,6 +1,6 @@
 //! The canonical form of a new clause.
 
-ghost use Rattle.std.specs.Prelude.{◌≡◌, ◌≤◌, ◌∷◌, length, map, Ok, None, IfOk, IfErr};
+ghost use Rattle.std.specs.Prelude.{◌≡◌, ◌≤◌, ◌∷◌, length, map, Ok, Err, None, IfOk, IfErr};
 ghost use Rattle.clp_model.specs.Trees.{mapped_all};
 ghost use Rattle.clp_model.specs.Canonical.{place_in};
 ghost use Rattle.linear_model.specs.Normal.{normal};
@@ -9,6 +9,7 @@ ghost use Rattle.linear_model.specs.Elimination.{cleaned};
 ghost use Rattle.clause_model.specs.Variables.{variables_by_first_occurrence};
 ghost use Rattle.clause_model.specs.Canonical.{canonical_form, limit_past, new_clause};
 ghost use Rattle.term_store.specs.Trees.{trees_at, HaveTrees, Keeps};
+ghost use Rattle.clause_store.specs.declared.fault.ClauseFault.TheVariants.{Overflow};
 ghost use Rattle.clause_store.specs.Stored.{renumber, clause_in, raw_in, raw_with, IsRaw, IsStored, IsRefused};
 
 use crate::clause::{Clause, RawClause};
@@ -90,7 +91,7 @@ fn renumbered(
 /// The canonical form: rows are in normal form, without true constant rows and rows equal to an earlier one; variables
 /// are numbered by first occurrence in the head, then the body atoms and then the rows, each of which is written in
 /// the new numbers; and the sorts are those of these variables. `TooLarge` where the clause is past a limit, with the
-/// first such limit.
+/// first such limit. It is never `Overflow`, since the rows are in range and no two variables become one.
 pub fn canonical(alloc: Global, store: &mut Store, raw: &RawClause) -> Result<Clause, ClauseFault>
     requires { IsRaw store.old raw.now }
     ensures keeps { Keeps store.old store.new }
@@ -98,6 +99,7 @@ pub fn canonical(alloc: Global, store: &mut Store, raw: &RawClause) -> Result<Cl
     ensures made { IfOk result (λ c. new_clause (raw_in store.old raw.now) ≡ Ok (clause_in store.new c)) }
     ensures stored { IfOk result (λ c. IsStored store.new c) }
     ensures past { IfErr result (IsRefused (raw_in store.old raw.now)) }
+    ensures in_range { ¬ (result ≡ Err Overflow) }
 {
     let rows = cleaned(alloc, raw.rows.as_slice())?;
     let met = variables_within(alloc, store, raw, rows.as_slice())?;

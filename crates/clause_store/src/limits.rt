@@ -1,10 +1,11 @@
 //! The limits of a new clause.
 
-ghost use Rattle.std.specs.Prelude.{◌≡◌, ◌∷◌, ◌↔◌, IsTrue, None, IfOk, IfErr, OnOk};
+ghost use Rattle.std.specs.Prelude.{◌≡◌, ◌∷◌, ◌↔◌, IsTrue, None, Err, IfOk, IfErr, OnOk};
 ghost use Rattle.linear_model.specs.Elimination.{cleaned};
 ghost use Rattle.clause_model.specs.Variables.{variables_by_first_occurrence};
 ghost use Rattle.clause_model.specs.Canonical.{canonical_form, limit_past};
 ghost use Rattle.term_store.specs.Trees.{AreIn};
+ghost use Rattle.clause_store.specs.declared.fault.ClauseFault.TheVariants.{Overflow};
 ghost use Rattle.clause_store.specs.Stored.{raw_in, raw_with, IsRaw, IsLarge, IsRefused};
 
 use crate::clause::RawClause;
@@ -57,6 +58,7 @@ pub(crate) fn variables_within(
     ensures met { IfOk result (λ met. met ≡ variables_by_first_occurrence (raw_with store.now raw.now rows.now)) }
     ensures within { OnOk result (limit_past (canonical_form (raw_in store.now raw.now)) ≡ None) }
     ensures past { IfErr result (IsRefused (raw_in store.now raw.now)) }
+    ensures in_range { ¬ (result ≡ Err Overflow) }
 {
     if is_large(store, raw, rows) {
         return Err(ClauseFault::TooLarge(Limit::Shape));

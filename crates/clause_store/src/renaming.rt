@@ -111,8 +111,8 @@ pub fn sort_in(sorts: &[Sort], number: u32) -> Sort
     sorts.get(number as usize - 1).copied().unwrap_or(Sort::Any)
 }
 
-/// The sorts of the variables in `met`.
-pub(crate) fn sorts_of(alloc: Global, sorts: &[Sort], met: &[u32]) -> Result<Items<Sort>, NoMemory>
+/// The sorts of the variables in `met`, in their order.
+pub fn sorts_of(alloc: Global, sorts: &[Sort], met: &[u32]) -> Result<Items<Sort>, NoMemory>
     ensures { IfOk result (λ found. found ≡ map (sort_in sorts.now) met.now) }
 {
     let mut found = Items::new(alloc);

@@ -25,7 +25,7 @@ pub(crate) fn copy_row(alloc: Global, row: &Row) -> Result<Row, NoMemory>
 }
 
 /// Equal rows.
-pub(crate) fn copy_rows(alloc: Global, rows: &[Row]) -> Result<Items<Row>, NoMemory>
+pub fn copy_rows(alloc: Global, rows: &[Row]) -> Result<Items<Row>, NoMemory>
     ensures { IfOk result (λ copies. copies ≡ rows.now) }
 {
     let mut copies = Items::new(alloc);

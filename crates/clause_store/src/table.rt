@@ -44,8 +44,9 @@ fn renamed_row(alloc: Global, row: &Row, table: &[u32]) -> Result<Row, NoMemory>
     }
 }
 
-/// The rows with each variable numbered by its place in `met`.
-pub(crate) fn renamed_rows(
+/// The rows with each variable numbered by its place in `met`, in normal form. The numbers of `met` are at most
+/// `count`.
+pub fn renamed_rows(
     alloc: Global,
     rows: &[Row],
     count: usize,
@@ -58,8 +59,11 @@ pub(crate) fn renamed_rows(
     requires met { All (Contains met.now) (rows_variables rows.now) }
     ensures { IfOk result (λ r. r ≡ map (λ row. normal (renamed (place_in met.now) row)) rows.now) }
 {
-    let table = places(alloc, count, met)?;
     let mut all = Items::new(alloc);
+    if rows.is_empty() {
+        return Ok(all);
+    }
+    let table = places(alloc, count, met)?;
     for row in rows {
         all.push(renamed_row(alloc, row, table.as_slice())?)?;
     }

@@ -1,4 +1,4 @@
-use Rattle.std.proofs.Common.{ℕ, List, length, ap, arith}
+use Rattle.std.proofs.Common.{arith}
 use Rattle.clause_store.specs.Stored.{clause_in}
 use Rattle.clause_store.proofs.Counts.{size_in, small_clause}
 use Rattle.clause_store.proofs.clause.terms_size.Goals as goal

@@ -1,4 +1,4 @@
-use Rattle.std.proofs.Common.{◌≡◌, Ok, ap, ◌∙◌, sym}
+use Rattle.std.proofs.Common.{Ok, ap, ◌∙◌, sym}
 use Rattle.clause_store.proofs.Counts.{accepted}
 use Rattle.clause_store.proofs.form.canonical.Goals as goal
 

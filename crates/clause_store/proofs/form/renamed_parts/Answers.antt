@@ -1,4 +1,4 @@
-use Rattle.std.proofs.Common.{◌≡◌, ◌<◌, ◌≤◌, ℕ, List, ◌∷◌, All, Contains, ◌∙◌, sym, subst}
+use Rattle.std.proofs.Common.{◌<◌, ◌≤◌, ℕ, List, ◌∷◌, All, Contains, ◌∙◌, sym, subst}
 use Rattle.clp_model.specs.Trees.{mapped_all}
 use Rattle.clp_model.specs.Clauses.{Row}
 use Rattle.clause_model.specs.Variables.{rows_variables}

@@ -1,4 +1,4 @@
-use Rattle.std.proofs.Common.{◌≡◌, ℕ, List, [], drop, ap, ◌∙◌, sym, arith, length}
+use Rattle.std.proofs.Common.{◌≡◌, List, [], drop, ap, ◌∙◌, sym, arith}
 use Rattle.std.specs.List.{filter}
 use Rattle.std.proofs.lemmas.List.{drop_all}
 use Rattle.clp_model.specs.Clauses.{Row}

@@ -1,4 +1,4 @@
-use Rattle.std.proofs.Common.{◌≡◌, List, [], drop}
+use Rattle.std.proofs.Common.{◌≡◌, [], drop}
 use Rattle.std.specs.List.{filter}
 use Rattle.clp_model.specs.Predicates.{distinct_after}
 use Rattle.linear_model.specs.Normal.{row_eq}

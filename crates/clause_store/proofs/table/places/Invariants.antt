@@ -1,4 +1,4 @@
-use Rattle.std.proofs.Common.{◌≡◌, ℕ, ◌+◌, length, take}
+use Rattle.std.proofs.Common.{◌≡◌, ℕ, length, take}
 use Rattle.clp_model.specs.Canonical.{place_in}
 use Rattle.clp_model.proofs.Membership.{Among}
 use Rattle.lin_row.specs.Rows.{at}

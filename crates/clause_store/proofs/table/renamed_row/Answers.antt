@@ -1,4 +1,4 @@
-use Rattle.std.proofs.Common.{◌≡◌, true, false, Err, ap, ◌∙◌, sym}
+use Rattle.std.proofs.Common.{Err, ap, ◌∙◌}
 use Rattle.clp_model.proofs.Membership.{from_among}
 use Rattle.lin_row.specs.Rows.{at}
 use Rattle.clause_laws.proofs.NewClause.{written_within}

@@ -1,9 +1,8 @@
-use Rattle.std.proofs.Common.{◌≡◌, ℕ, List, length, ap, ◌∙◌, sym, subst, arith}
+use Rattle.std.proofs.Common.{ℕ, List, length, ap, ◌∙◌, sym, subst, arith}
 use Rattle.lin_row.specs.Rows.{at}
 use Rattle.clause_model.specs.Variables.{row_variables}
 use Rattle.linear_model.specs.Normal.{normal}
 use Rattle.linear_model.specs.Changes.{renamed}
-use Rattle.clp_model.specs.Clauses.{Row}
 use Rattle.clause_store.specs.Stored.{KeepsApart}
 use Rattle.clause_store.proofs.Tables.{row_numbered, row_apart, row_written}
 use Rattle.clause_store.proofs.table.renamed_rows.Goals as goal
