@@ -4,6 +4,7 @@
 
 mod name;
 mod row;
+mod term;
 
 pub use name::name_text;
 pub use row::print_row;

@@ -38,12 +38,17 @@ arguments_text (t ∷ ts) = joined (codes "(") (codes ",") (wholes (t ∷ ts)) +
 abbrev pub applied : List ℕ → List Texts → List ℕ
 applied name args = predicate_text name ++ arguments_text args
 
--- a name with arguments: a name alone, a list, or another application
+-- a name alone, or with arguments, that is no list with elements
+abbrev pub simple : List ℕ → List Texts → Texts
+simple name [] = if is_nil name then nil else other (name_text name)
+simple name (t ∷ ts) = other (applied name (t ∷ ts))
+
+-- a name and its arguments: the name `.` with two of them is a list with elements
 abbrev pub application : List ℕ → List Texts → Texts
-application name [] = if is_nil name then nil else other (name_text name)
-application name (t ∷ []) = other (applied name (t ∷ []))
-application name (t ∷ u ∷ []) = if is_dot name then cell t u else other (applied name (t ∷ u ∷ []))
-application name (t ∷ u ∷ v ∷ ts) = other (applied name (t ∷ u ∷ v ∷ ts))
+application name [] = simple name []
+application name (t ∷ []) = simple name (t ∷ [])
+application name (t ∷ u ∷ []) = if is_dot name then cell t u else simple name (t ∷ u ∷ [])
+application name (t ∷ u ∷ v ∷ ts) = simple name (t ∷ u ∷ v ∷ ts)
 
 unfoldable mutual
   pub texts : Tree ℕ → Texts
