@@ -9,7 +9,7 @@ ghost use Rattle.print_model.specs.Joined.{joined};
 ghost use Rattle.print_model.specs.Terms.{atom_text};
 ghost use Rattle.print_model.specs.Rows.{row_text};
 ghost use Rattle.print_model.specs.Clauses as spec;
-ghost use Rattle.clause_printer.specs.Loose.{loose};
+ghost use Rattle.clause_printer.specs.Loose.{loose, before};
 
 use crate::row::{row, variable};
 use crate::term::atom;
@@ -42,6 +42,7 @@ fn have_variable(rows: &[Row], number: u32) -> bool
 }
 
 /// The Num variables that are in no row, by rising number.
+#[tactic(auto, using(std::proofs::lemmas::List::append_assoc))]
 fn loose(alloc: Global, rows: &[Row], sorts: &[Sort]) -> Result<Items<u32>, NoMemory>
     requires { length sorts.now ≤ 256 }
     ensures { IfOk result (λ ns. ns ≡ loose 1 rows.now sorts.now) }
@@ -58,6 +59,7 @@ fn loose(alloc: Global, rows: &[Row], sorts: &[Sort]) -> Result<Items<u32>, NoMe
 }
 
 /// Appends that a variable is a number.
+#[tactic(auto, using(std::proofs::lemmas::List::append_assoc))]
 fn num(number: u32, into: &mut String) -> Result<(), NoMemory>
     ensures { OnOk result (string_bytes into.new ≡ string_bytes into.old ++ spec.num_text number) }
 {
@@ -67,26 +69,35 @@ fn num(number: u32, into: &mut String) -> Result<(), NoMemory>
     Ok(())
 }
 
+/// What stands before a constraint.
+fn mark(is_first: bool) -> &'static str
+    ensures { result.now ≡ before is_first }
+{
+    if is_first { "{" } else { ", " }
+}
+
 /// Appends the constraints in braces.
+#[tactic(auto, using(std::proofs::lemmas::List::append_assoc))]
 fn braces(rows: &[Row], nums: &[u32], into: &mut String) -> Result<(), NoMemory>
     ensures { OnOk result (string_bytes into.new ≡ string_bytes into.old ++ (joined (codes "{") (codes ", ") (map row_text rows.now ++ map spec.num_text nums.now) ++ codes "}")) }
 {
-    let mut mark = "{";
+    let mut is_first = true;
     for r in rows {
-        into.push_str(mark)?;
+        into.push_str(mark(is_first))?;
         row(r, into)?;
-        mark = ", ";
+        is_first = false;
     }
     for number in nums {
-        into.push_str(mark)?;
+        into.push_str(mark(is_first))?;
         num(*number, into)?;
-        mark = ", ";
+        is_first = false;
     }
     into.push_str("}")?;
     Ok(())
 }
 
 /// Appends the body atoms, the first after this mark.
+#[tactic(auto, using(std::proofs::lemmas::List::append_assoc))]
 fn atoms(store: &Store, mark: &str, atoms: &[Term], into: &mut String) -> Result<(), NoMemory>
     requires { AreIn store.now atoms.now }
     ensures { OnOk result (string_bytes into.new ≡ string_bytes into.old ++ joined mark.now (codes ", ") (map atom_text (atoms_at store.now atoms.now))) }
@@ -104,6 +115,7 @@ fn atoms(store: &Store, mark: &str, atoms: &[Term], into: &mut String) -> Result
 }
 
 /// Appends ` :- ` and the goals, if there are any.
+#[tactic(auto, using(std::proofs::lemmas::List::append_assoc, crate::proofs::Bodies::no_constraint, crate::proofs::Bodies::some_constraint))]
 fn body(
     store: &Store,
     rows: &[Row],
@@ -125,6 +137,7 @@ fn body(
 /// Appends the text of a clause of this store: the head, ` :- ` and the goals if there are any, `.` and a line feed.
 /// The first goal is the rows and `num(V)` for each Num variable in no row, in braces. Variable 1 is printed `V1`.
 /// After an error `into` is as before.
+#[tactic(auto, using(std::proofs::lemmas::List::append_assoc, crate::proofs::Bodies::few_sorts), unfolding(print_model::specs::Clauses::clause_text))]
 pub fn print_clause(
     alloc: Global,
     store: &Store,

@@ -2,9 +2,11 @@
 //! definitions.
 #![tactic(auto)]
 
+mod clause;
 mod name;
 mod row;
 mod term;
 
+pub use clause::print_clause;
 pub use name::name_text;
 pub use row::print_row;
