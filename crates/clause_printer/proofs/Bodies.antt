@@ -1,9 +1,9 @@
 -- The goals of a clause, and how many variables it has.
-use Rattle.std.proofs.Common.{◌≡◌, ℕ, ◌<◌, ◌≤◌, ◌||◌, Bool, true, false, if◌then◌else◌, nat_lt, List, [], ◌∷◌, ◌++◌, map, length, codes, Option, Some, None, refl, ap, ◌∙◌, sym, arith, rules, append_assoc}
+use Rattle.std.proofs.Common.{◌≡◌, ℕ, ◌<◌, ◌≤◌, ◌||◌, Bool, true, false, if◌then◌else◌, nat_lt, List, [], ◌∷◌, ◌++◌, map, length, codes, Option, Some, None, refl, ap, arith, rules}
 use Rattle.std.proofs.lemmas.Bool.Decides.{nat_tests}
 use Rattle.clp_model.specs.declared.limit.Limit.{Limit}
-use Rattle.clp_model.specs.declared.limit.Limit.TheVariants.{Shape, Atoms, Variables, Rows}
-use Rattle.clp_model.specs.Clauses.{Clause, Row}
+use Rattle.clp_model.specs.declared.limit.Limit.TheVariants.{Shape, Atoms, Variables}
+use Rattle.clp_model.specs.Clauses.{Clause}
 use Rattle.clp_model.specs.Canonical.{clause_size, clause_depth}
 use Rattle.clause_model.specs.Canonical.{limit_past}
 use Rattle.print_model.specs.Joined.{joined}

@@ -1,16 +1,15 @@
 -- The texts of applications by the lists of their arguments.
-use Rattle.std.proofs.Common.{◌≡◌, ℕ, ◌+◌, ◌<◌, ◌≤◌, Bool, true, false, if◌then◌else◌, List, [], ◌∷◌, ◌++◌, map, length, get_or, codes, refl, ap, ◌∙◌, sym, subst, arith}
-use Rattle.std.specs.Str.{bytes_eq}
+use Rattle.std.proofs.Common.{◌≡◌, ℕ, ◌+◌, ◌<◌, ◌≤◌, true, false, if◌then◌else◌, List, [], ◌∷◌, map, length, get_or, codes, refl, ap, ◌∙◌, sym, subst, arith}
 use Rattle.std.proofs.lemmas.Slice.Eq.{bytes_eq-Decides}
 use Rattle.clp_model.specs.declared.sort.Sort.{Sort}
 use Rattle.clp_model.specs.declared.tree.Variable.{Variable}
 use Rattle.clp_model.specs.declared.tree.Tree.{Tree, Var, App, Row_of-Tree, end_of-Tree, more_of-Tree, items-the_row-Tree}
 use Rattle.clp_model.specs.declared.tree.Tree.TheBlock.{items_hidden-the_row-Tree-0, hidden-the_row-Tree-0}
-use Rattle.clp_model.specs.Trees.{size, total_size, mapped, mapped_all}
+use Rattle.clp_model.specs.Trees.{size, total_size, mapped}
 use Rattle.clp_model.proofs.Trees.{mapped_app, mapped_var, size_app}
 use Rattle.term_store.specs.Trees.{variable, tree_at, trees_at, AreIn}
 use Rattle.clause_store.specs.Stored.{number_of, atom_at, atoms_at}
-use Rattle.print_model.specs.Names.{is_nil, is_dot, name_text}
+use Rattle.print_model.specs.Names.{is_nil, name_text}
 use Rattle.print_model.specs.Terms.{Texts, variable_text, nil, other, cell, simple, application, applied, texts, row_texts, atom_text}
 use Rattle.clause_printer.specs.Stored.{texts_at, all_texts_at, IsCell, IsNoCell, HasCell}
 

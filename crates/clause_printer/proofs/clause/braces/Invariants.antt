@@ -1,4 +1,4 @@
-use Rattle.std.proofs.Common.{◌≡◌, List, ℕ, ◌++◌, drop, map, string_bytes, codes}
+use Rattle.std.proofs.Common.{◌≡◌, ◌++◌, drop, map, string_bytes, codes}
 use Rattle.print_model.specs.Joined.{joined}
 use Rattle.print_model.specs.Rows.{row_text}
 use Rattle.print_model.specs.Clauses.{num_text}

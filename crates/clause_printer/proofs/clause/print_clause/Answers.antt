@@ -1,4 +1,4 @@
-use Rattle.std.proofs.Common.{◌≡◌, ◌≤◌, List, length, ap, sym, subst}
+use Rattle.std.proofs.Common.{◌≤◌, List, length, sym, subst}
 use Rattle.clp_model.specs.declared.sort.Sort.{Sort}
 use Rattle.clause_store.specs.Stored.{clause_in}
 use Rattle.clause_printer.proofs.Bodies.{few_sorts}

@@ -1,4 +1,4 @@
-use Rattle.std.proofs.Common.{◌≡◌, List, ◌++◌, OnOk, string_bytes, sym, subst}
+use Rattle.std.proofs.Common.{◌≡◌, ◌++◌, OnOk, string_bytes, sym, subst}
 use Rattle.print_model.specs.Terms.{Texts}
 use Rattle.clause_printer.proofs.Texts.{has_cell}
 use Rattle.clause_printer.proofs.term.+print.Goals as goal

@@ -1,4 +1,4 @@
-use Rattle.std.proofs.Common.{◌≡◌, true, codes, rules, arith}
+use Rattle.std.proofs.Common.{◌≡◌, true, codes, arith}
 use Rattle.std.specs.Str.{bytes_eq}
 use Rattle.std.proofs.lemmas.Slice.Eq.{bytes_eq-Decides}
 use Rattle.clause_printer.proofs.Texts.{two_items}

@@ -1,4 +1,4 @@
-use Rattle.std.proofs.Common.{◌≡◌, true, false, codes, length, rules, arith}
+use Rattle.std.proofs.Common.{◌≡◌, true, codes, arith}
 use Rattle.std.specs.Str.{bytes_eq}
 use Rattle.clause_printer.proofs.Texts.{has_cell, is_nil_term, is_other_term}
 use Rattle.clause_printer.proofs.term.rest_of.Goals as goal
