@@ -1,0 +1,2 @@
+mod Applications
+mod Texts
