@@ -1,43 +1,18 @@
--- The texts of applications by the lists of their arguments.
+-- The texts of terms of a store, and when these are lists.
 use Rattle.std.proofs.Common.{◌≡◌, ℕ, ◌+◌, ◌<◌, ◌≤◌, true, false, if◌then◌else◌, List, [], ◌∷◌, map, length, get_or, codes, refl, ap, ◌∙◌, sym, subst, arith}
 use Rattle.std.proofs.lemmas.Slice.Eq.{bytes_eq-Decides}
 use Rattle.clp_model.specs.declared.sort.Sort.{Sort}
 use Rattle.clp_model.specs.declared.tree.Variable.{Variable}
-use Rattle.clp_model.specs.declared.tree.Tree.{Tree, Var, App, Row_of-Tree, end_of-Tree, more_of-Tree, items-the_row-Tree}
-use Rattle.clp_model.specs.declared.tree.Tree.TheBlock.{items_hidden-the_row-Tree-0, hidden-the_row-Tree-0}
+use Rattle.clp_model.specs.declared.tree.Tree.{Tree, App}
 use Rattle.clp_model.specs.Trees.{size, total_size, mapped}
 use Rattle.clp_model.proofs.Trees.{mapped_app, mapped_var, size_app}
 use Rattle.term_store.specs.Trees.{variable, tree_at, trees_at, AreIn}
 use Rattle.clause_store.specs.Stored.{number_of, atom_at, atoms_at}
 use Rattle.print_model.specs.Names.{is_nil, name_text}
-use Rattle.print_model.specs.Terms.{Texts, variable_text, nil, other, cell, simple, application, applied, texts, row_texts, atom_text}
+use Rattle.print_model.specs.Terms.{Texts, variable_text, nil, other, cell, simple, application, applied, texts, atom_text}
+use Rattle.print_model.proofs.Applications.{texts_app, texts_var, atom_app, atom_var}
 use Rattle.clause_printer.specs.Stored.{texts_at, all_texts_at, IsCell, IsNoCell, HasCell}
 
-row_items : (n : _) (ts : Row_of-Tree ℕ n) → row_texts ts ≡ map texts (items-the_row-Tree ℕ n ts)
-unfolding texts
-row_items n end_of-Tree = refl
-row_items n (more_of-Tree t ts) = ap (λ v. texts t ∷ v) (row_items _ ts)
-
-hidden_texts : (ts : List (Tree ℕ)) → row_texts (hidden-the_row-Tree-0 ℕ ts) ≡ map texts ts
-hidden_texts ts = row_items _ (hidden-the_row-Tree-0 ℕ ts) ∙ ap (map texts) (items_hidden-the_row-Tree-0 ℕ ts)
-
-texts_app : (name : List ℕ) (ts : List (Tree ℕ)) → texts (App name ts) ≡ application name (map texts ts)
-unfolding texts
-texts_app name ts = ap (application name) (hidden_texts ts)
-
-texts_var : (n : ℕ) → texts (Var n) ≡ other (variable_text n)
-unfolding texts
-texts_var n = refl
-
-atom_app : (name : List ℕ) (ts : List (Tree ℕ)) → atom_text (App name ts) ≡ applied name (map texts ts)
-unfolding atom_text
-atom_app name ts = ap (applied name) (hidden_texts ts)
-
-atom_var : (n : ℕ) → atom_text (Var n) ≡ variable_text n
-unfolding atom_text
-atom_var n = refl
-
--- ---- of terms of a store
 texts_of_all : (store : List (Tree Variable)) (args : List ℕ) → map texts (atoms_at store args) ≡ all_texts_at store args
 texts_of_all store [] = refl
 texts_of_all store (t ∷ ts) = ap (λ v. texts_at store t ∷ v) (texts_of_all store ts)

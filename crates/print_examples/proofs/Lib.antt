@@ -1,2 +1,1 @@
-mod Applications
 mod Texts

@@ -3,7 +3,7 @@ use Rattle.std.specs.Fmt.{digits}
 use Rattle.print_model.specs.Names.{predicate_text}
 use Rattle.print_model.specs.Rows.{row_text}
 use Rattle.print_model.specs.Clauses.{clause_text}
-use Rattle.print_examples.proofs.Applications.{texts_app, texts_var, atom_app}
+use Rattle.print_model.proofs.Applications.{texts_app, texts_var, atom_app}
 use Rattle.print_examples.specs.Printed.{AFact, Lists, ListNamesAsPredicates, QuotedNames, RowsAndNums, NumsAlone, ConstantRow}
 
 pub a_fact : AFact

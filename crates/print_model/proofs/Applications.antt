@@ -23,3 +23,7 @@ texts_var n = refl
 pub atom_app : (name : List ℕ) (ts : List (Tree ℕ)) → atom_text (App name ts) ≡ applied name (map texts ts)
 unfolding atom_text
 atom_app name ts = ap (applied name) (hidden_texts ts)
+
+pub atom_var : (n : ℕ) → atom_text (Var n) ≡ variable_text n
+unfolding atom_text
+atom_var n = refl
