@@ -1,12 +1,12 @@
 -- Putting images in makes no tree smaller.
-use Rattle.std.proofs.Common.{◌≡◌, ℕ, zero, suc, ◌+◌, ◌<◌, ◌≤◌, max, List, [], ◌∷◌, ◌++◌, length, take, get_or, refl, ap, ◌∙◌, sym, subst, arith, inl, inr}
+use Rattle.std.proofs.Common.{◌≡◌, ℕ, zero, suc, ◌+◌, ◌<◌, ◌≤◌, List, [], ◌∷◌, ◌++◌, length, take, get_or, refl, ap, ◌∙◌, sym, subst, arith, inl, inr}
 use Rattle.std.proofs.lemmas.List.{take_more, take_all}
 use Rattle.clp_model.specs.declared.sort.Sort.{Sort}
 use Rattle.clp_model.specs.declared.tree.Variable.{Variable}
 use Rattle.clp_model.specs.declared.tree.Tree.{Tree, Var, App', Row_of-Tree, end_of-Tree, more_of-Tree}
 use Rattle.clp_model.specs.Trees.{size, sizes, depth, depths, total_size, greatest_depth}
 use Rattle.clp_model.proofs.Trees.{size_mapped, depth_mapped, size_positive, depth_positive}
-use Rattle.unify_model.specs.Substituting.{substituted, substituted_row, substituted_all}
+use Rattle.unify_model.specs.Substituting.{substituted, substituted_row}
 use Rattle.clause_model.specs.Solved.{typed_variable, typed}
 use Rattle.term_store.specs.Trees.{tree_at, HasTree, HaveTrees, Keeps, IsOver, IsTooLarge}
 use Rattle.term_store.proofs.Keeping.{have_push}

@@ -1,5 +1,5 @@
 -- What the variables of a clause become.
-use Rattle.std.proofs.Common.{◌≡◌, ℕ, ◌<◌, List, [], ◌∷◌, refl, ap, ◌∙◌, sym, subst, arith, inl, inr}
+use Rattle.std.proofs.Common.{◌≡◌, ℕ, List, refl, ap, ◌∙◌, sym, arith, inl, inr}
 use Rattle.clp_model.specs.declared.sort.Sort.{Sort}
 use Rattle.clp_model.specs.declared.tree.Variable.{Variable}
 use Rattle.clp_model.specs.declared.tree.Tree.{Tree, Var, App', App}

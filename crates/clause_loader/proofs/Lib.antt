@@ -1,4 +1,7 @@
 pub mod Items
+pub mod Noting
+pub mod Collecting
+pub mod Stopping
 pub mod Typed
 pub mod Sides
 pub mod Images

@@ -1,16 +1,15 @@
 -- What a clause is loaded as.
-use Rattle.std.proofs.Common.{◌≡◌, ℕ, ◌+◌, ◌<◌, ◌≤◌, Bool, true, false, List, [], ◌∷◌, length, map, refl, ap, ◌∙◌, sym, subst, arith, inl, inr, Option, Some, None, Ok, Err, All, cond, nat_lt, ◌||◌}
+use Rattle.std.proofs.Common.{◌≡◌, ℕ, Bool, true, false, List, [], ◌∷◌, map, refl, ap, ◌∙◌, sym, arith, inl, inr, Option, Some, None, Ok, Err, All, nat_lt, ◌||◌}
 use Rattle.std.specs.Prelude.{not, if◌then◌else◌, Result, IfOk, IfErr, IfNone}
 use Rattle.std.proofs.lemmas.Bool.{cond-true, cond-false, lt-ltb, or_left, or_right}
 use Rattle.clp_model.specs.declared.sort.Sort.{Sort}
 use Rattle.clp_model.specs.declared.limit.Limit.{Limit}
 use Rattle.clp_model.specs.declared.limit.Limit.TheVariants.{Shape}
 use Rattle.clp_model.specs.declared.tree.Variable.{Variable}
-use Rattle.clp_model.specs.declared.tree.Tree.{Tree, Var}
-use Rattle.clp_model.specs.Trees.{size, depth, total_size, greatest_depth, mapped, mapped_all, variables, variables_in, IsApplication}
-use Rattle.clp_model.specs.Clauses.{Clause, Row, sort_in}
+use Rattle.clp_model.specs.declared.tree.Tree.{Tree}
+use Rattle.clp_model.specs.Trees.{size, depth, total_size, greatest_depth, mapped, mapped_all}
+use Rattle.clp_model.specs.Clauses.{Clause, Row}
 use Rattle.clp_model.specs.Canonical.{clause_size, clause_depth, place_in}
-use Rattle.clp_model.proofs.Membership.{Among, among_front}
 use Rattle.clp_model.proofs.RenamedTrees.{total_size_mapped, greatest_depth_mapped}
 use Rattle.clp_model.proofs.Trees.{size_mapped, depth_mapped}
 use Rattle.std.specs.List.{filter}
@@ -20,14 +19,14 @@ use Rattle.linear_model.specs.Elimination.{cleaned}
 use Rattle.linear_model.specs.Changes.{renamed}
 use Rattle.lin_row.specs.Rows.{IsKept}
 use Rattle.linear_laws.proofs.Normalized.{normal_normal}
-use Rattle.unify_model.specs.Substituting.{substituted, substituted_all, Binding, image}
+use Rattle.unify_model.specs.Substituting.{Binding, image}
 use Rattle.unify_model.specs.Unifying.{most_general_unifier}
 use Rattle.unify_laws.proofs.Substituted.{substituted_agrees}
 use Rattle.unify.specs.Unifiers.{Unifies}
 use Rattle.substitution.specs.Made.{IsPastAny}
 use Rattle.clause_model.specs.Variables.{variables_by_first_occurrence, rows_variables}
-use Rattle.clause_model.specs.Canonical.{Refusal, Overflow, TooLarge, numbered_by, with_clean_rows, canonical_form, limit_past, unless_past, new_clause, all_within}
-use Rattle.clause_model.specs.Solved.{typed_variable, typed, typed_equations, number_of, carried, carried_clause, solved_by, solved_clause, variable_number}
+use Rattle.clause_model.specs.Canonical.{Overflow, TooLarge, numbered_by, with_clean_rows, canonical_form, limit_past, unless_past, new_clause, all_within}
+use Rattle.clause_model.specs.Solved.{typed_variable, typed, typed_equations, number_of, carried_clause, solved_by, solved_clause, variable_number}
 use Rattle.clause_model.specs.Load.{any_side_large, made_of, loaded_solved, load_one}
 use Rattle.clause_laws.proofs.Rows.{each_all}
 use Rattle.clause_store.proofs.RowForms.{within_kept}

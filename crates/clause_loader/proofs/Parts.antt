@@ -1,20 +1,17 @@
 -- The parts of a source clause with what solves its equations are those of a clause.
-use Rattle.std.proofs.Common.{◌≡◌, ℕ, ◌<◌, ◌≤◌, List, [], ◌∷◌, ◌++◌, length, map, refl, ap, ◌∙◌, sym, subst, arith, inl, inr, All, Some}
+use Rattle.std.proofs.Common.{◌≡◌, ℕ, List, [], ◌∷◌, ◌++◌, length, map, refl, ap, ◌∙◌, sym, subst, inl, inr, All}
 use Rattle.clp_model.specs.declared.sort.Sort.{Sort}
-use Rattle.clp_model.specs.declared.sort.Sort.TheVariants.{Num}
 use Rattle.clp_model.specs.declared.tree.Variable.{Variable}
 use Rattle.clp_model.specs.declared.tree.Tree.{Tree, Var, App'}
 use Rattle.clp_model.specs.Trees.{mapped, variables, variables_in, IsApplication}
-use Rattle.clp_model.specs.Clauses.{Row, sort_in}
+use Rattle.clp_model.specs.Clauses.{Row}
 use Rattle.clp_model.proofs.Membership.{Among, first, next, among_front, among_back, among_either}
-use Rattle.clp_model.proofs.RenamedTrees.{variables_mapped, application_mapped}
+use Rattle.clp_model.proofs.RenamedTrees.{variables_mapped}
 use Rattle.std.proofs.lemmas.List.Elements.{All-nil, All-cons, All-head, All-tail}
 use Rattle.linear_model.specs.Normal.{normal}
 use Rattle.linear_model.specs.Changes.{renamed}
 use Rattle.lin_row.specs.Rows.{IsKept}
-use Rattle.unify_model.specs.Substituting.{substituted, Binding, image}
-use Rattle.unify_model.specs.Equations.{Equation}
-use Rattle.unify_model.specs.Unifying.{most_general_unifier}
+use Rattle.unify_model.specs.Substituting.{substituted}
 use Rattle.unify_laws.proofs.Substituted.{came_from}
 use Rattle.unify_laws.proofs.Good.{EachOf, OfEquations}
 use Rattle.unify_laws.proofs.Triangular.{AreTriangular, of_image}
@@ -24,7 +21,7 @@ use Rattle.unify_laws.proofs.Laws.{mgu_triangular}
 use Rattle.unify.specs.Unifiers.{Unifies}
 use Rattle.clause_model.specs.Variables.{row_variables, rows_variables}
 use Rattle.clause_model.specs.Solved.{typed_variable, typed, typed_equations, variable_number}
-use Rattle.clause_laws.proofs.Rows.{all_each, each_all, among_rows}
+use Rattle.clause_laws.proofs.Rows.{all_each, each_all}
 use Rattle.clause_laws.proofs.Written.{written_from}
 use Rattle.clause_store.specs.declared.source.SourceClause.{SourceClause}
 use Rattle.clause_store.specs.Stored.{HasSort, IsNum, AreParts}

@@ -1,5 +1,5 @@
 -- A table of the numbers of what variables become.
-use Rattle.std.proofs.Common.{◌≡◌, ◌≢◌, ℕ, zero, suc, ◌+◌, ◌-◌, ◌<◌, ◌≤◌, List, [], ◌∷◌, ◌++◌, length, map, take, get_or, set, nat_eq, Bool, true, false, refl, ap, ◌∙◌, sym, subst, arith, add-one, All, ◌&&◌, inl, inr}
+use Rattle.std.proofs.Common.{◌≡◌, ◌≢◌, ℕ, zero, suc, ◌+◌, ◌-◌, ◌<◌, ◌≤◌, List, [], ◌∷◌, ◌++◌, length, map, take, get_or, set, nat_eq, Bool, true, false, refl, ap, ◌∙◌, sym, subst, arith, All, ◌&&◌, inl, inr}
 use Rattle.std.proofs.lemmas.Bool.{eqb-true, eqb-false}
 use Rattle.std.proofs.lemmas.List.{take_more, take_all, get_or-set_same, get_or-set_other}
 use Rattle.std.specs.Prelude.{Result, IfOk}
@@ -7,10 +7,9 @@ use Rattle.std.proofs.lemmas.List.Elements.{All-more, All-weaker}
 use Rattle.std.proofs.Math.IntN.{ℤ}
 use Rattle.clp_model.specs.Clauses.{Row}
 use Rattle.clp_model.proofs.Membership.{Among, first, next, among_either, among_front, among_back, among_mapped}
-use Rattle.linear_model.specs.Forms.{IsRising}
 use Rattle.linear_model.specs.Normal.{normal, is_within}
-use Rattle.linear_model.specs.Changes.{renamed, renamed_pairs}
-use Rattle.lin_row.specs.Rows.{at, IsKept}
+use Rattle.linear_model.specs.Changes.{renamed}
+use Rattle.lin_row.specs.Rows.{at}
 use Rattle.clause_model.specs.Variables.{row_variables, rows_variables}
 use Rattle.clause_model.specs.Canonical.{all_within}
 use Rattle.clause_laws.proofs.Rows.{all_each, each_all, among_rows}

@@ -8,8 +8,7 @@ use Rattle.clp_model.specs.Clauses.{Clause}
 use Rattle.linear_model.specs.Changes.{renamed}
 use Rattle.unify_model.specs.Substituting.{substituted, substituted_all}
 use Rattle.unify_model.specs.Equations.{Equation}
-use Rattle.clause_model.specs.Solved.{typed_variable, typed, typed_equations, number_of, variable_number}
-use Rattle.term_store.specs.Trees.{Keeps}
+use Rattle.clause_model.specs.Solved.{typed_variable, typed, number_of, variable_number}
 use Rattle.unify.specs.Pairs.{PairsIn, equations_at}
 
 abbrev pub typed_all : List Sort → List (Tree ℕ) → List (Tree Variable)

@@ -1,3 +1,5 @@
 pub mod WellFormed
 pub mod Carried
 pub mod Outcome
+pub mod Found
+pub mod Loaded

@@ -1,7 +1,5 @@
 -- What loading a clause answers.
-use Rattle.std.specs.Prelude.{◌≡◌, List, Option, Some, None, option_map, Ok, Err}
-use Rattle.clp_model.specs.declared.tree.Variable.{Variable}
-use Rattle.clp_model.specs.declared.tree.Tree.{Tree}
+use Rattle.std.specs.Prelude.{◌≡◌, Err}
 use Rattle.clp_model.specs.Clauses.{Clause as Meaning}
 use Rattle.clause_model.specs.Canonical.{Overflow, TooLarge}
 use Rattle.clause_model.specs.Load.{load_one}

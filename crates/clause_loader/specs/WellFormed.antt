@@ -1,7 +1,7 @@
 -- What holds of each source clause that is loaded.
-use Rattle.std.specs.Prelude.{ℕ, ◌<◌, ◌≤◌, List, [], ◌∷◌, ◌++◌, length, All}
+use Rattle.std.specs.Prelude.{ℕ, ◌<◌, ◌≤◌, ◌^◌, List, [], ◌∷◌, ◌++◌, length, All}
 use Rattle.clp_model.specs.declared.tree.Tree.{Tree}
-use Rattle.clp_model.specs.Trees.{variables, variables_in, IsApplication}
+use Rattle.clp_model.specs.Trees.{variables, variables_in, arguments_of, IsApplication}
 use Rattle.clause_model.specs.Variables.{rows_variables}
 use Rattle.clause_store.specs.declared.source.SourceClause.{SourceClause}
 use Rattle.clause_store.specs.Stored.{IsNum}
@@ -21,3 +21,12 @@ pub record IsWellFormed (s : SourceClause) : Type 0 where
   pub numbered : All (IsNumber (length s.sorts)) (variables_in (s.head ∷ s.atoms))
   pub sides : All (IsNumber (length s.sorts)) (side_variables s.equations)
   pub nums : All (IsNum s.sorts) (rows_variables s.rows)
+
+-- an application whose number of arguments is one of 32 bits
+pub record IsNarrowAtom (t : Tree ℕ) : Type 0 where
+  pub application : IsApplication t
+  pub few : length (arguments_of t) < 2 ^ 32
+
+-- each predicate of the clause is one that can be kept
+abbrev pub IsNarrow : SourceClause → Type 0
+IsNarrow s = All IsNarrowAtom (s.head ∷ s.atoms)

@@ -4,8 +4,12 @@
 
 mod build;
 mod carrying;
+mod found;
 mod loading;
+mod predicates;
+mod program;
 mod rows;
 mod solving;
 
 pub use loading::load_one;
+pub use program::{LoadFault, Loaded, load};

@@ -1,5 +1,4 @@
-use Rattle.std.proofs.Common.{◌≡◌, ℕ, List, map, sym, subst, ◌∙◌, ap, false}
-use Rattle.clp_model.specs.Clauses.{Row}
+use Rattle.std.proofs.Common.{ℕ, List, map, sym, ◌∙◌, ap}
 use Rattle.linear_model.specs.Changes.{renamed}
 use Rattle.lin_row.specs.Rows.{at}
 use Rattle.substitution.specs.Weights.{images}

@@ -1,5 +1,5 @@
 use Rattle.clp_model.specs.declared.sort.Sort.{Sort}
-use Rattle.std.proofs.Common.{◌∙◌, sym, ap, subst}
+use Rattle.std.proofs.Common.{subst}
 use Rattle.substitution.proofs.Kept.{is_of_kept}
 use Rattle.term_store.specs.Trees.{variable, HasTree}
 use Rattle.clause_loader.proofs.Images.{variable_image, application_image, large_image}

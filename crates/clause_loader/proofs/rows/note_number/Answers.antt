@@ -1,5 +1,4 @@
-use Rattle.std.proofs.Common.{◌≡◌, ℕ, List, sym, subst, ◌∙◌, ap}
-use Rattle.lin_row.specs.Rows.{at}
+use Rattle.std.proofs.Common.{◌∙◌}
 use Rattle.substitution.specs.Weights.{images}
 use Rattle.clause_loader.specs.Carried.{number_by}
 use Rattle.clause_loader.proofs.Tables.{written_there, others_stay}

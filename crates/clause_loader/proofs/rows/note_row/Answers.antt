@@ -1,5 +1,5 @@
-use Rattle.std.proofs.Common.{◌≡◌, ℕ, List, length, get_or, ap, ◌∙◌, sym, subst, arith}
-use Rattle.std.proofs.Math.IntN.{ℤ, pos}
+use Rattle.std.proofs.Common.{◌≡◌, ℕ, length, get_or, ◌∙◌, sym, subst, arith}
+use Rattle.std.proofs.Math.IntN.{pos}
 use Rattle.clp_model.specs.declared.tree.Variable.{Variable}
 use Rattle.clp_model.specs.declared.tree.Tree.{Tree}
 use Rattle.term_store.proofs.Keeping.{keeps_trans}

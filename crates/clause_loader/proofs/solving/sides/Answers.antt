@@ -1,6 +1,5 @@
 use Rattle.std.proofs.Common.{ap}
-use Rattle.std.proofs.Common.{◌∙◌, sym, List, ℕ}
-use Rattle.clp_model.specs.declared.tree.Tree.{Tree}
+use Rattle.std.proofs.Common.{◌∙◌, sym}
 use Rattle.clause_model.specs.Load.{any_side_large}
 use Rattle.clause_store.specs.Source.{meaning_of}
 use Rattle.clause_loader.proofs.Loads.{refused_side}

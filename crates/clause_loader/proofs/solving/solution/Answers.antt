@@ -1,4 +1,4 @@
-use Rattle.std.proofs.Common.{◌≡◌, ◌∙◌, ℕ, List, sym, ap}
+use Rattle.std.proofs.Common.{◌∙◌, ℕ, List, sym, ap}
 use Rattle.unify_model.specs.Unifying.{most_general_unifier}
 use Rattle.unify.specs.Pairs.{equations_at}
 use Rattle.clause_store.specs.Source.{meaning_of}
