@@ -15,6 +15,9 @@ use Rattle.clp_model.proofs.RenamedTrees.{all_mapped_twice, all_mapped_to_themse
 use Rattle.linear_model.specs.Normal.{row_eq}
 use Rattle.linear_laws.proofs.Cleaning.{same_row}
 use Rattle.lin_row.specs.OrderLaws.{row_same_as}
+use Rattle.clause_model.specs.Canonical.{IsCanonical}
+use Rattle.clause_model.specs.Variants.{IsClosed, AreVariants}
+use Rattle.clause_laws.proofs.Variants.{variants_exactly}
 use Rattle.clause_laws.proofs.Again.{same_parts}
 use Rattle.term_store.specs.Trees.{tree_at, trees_at}
 use Rattle.clause_store.specs.declared.clause.Clause.{Clause}
@@ -104,3 +107,9 @@ sorts_decided E p q s t r xs ys e =
 pub rows_decided : (r : Bool) (xs ys : List Row) → r ≡ pointwise row_eq xs ys → IsTrue r ↔ (xs ≡ ys)
 rows_decided r xs ys e =
     ((λ h. pointwise_equal row_eq same_row xs ys (sym e ∙ h)), (λ h. e ∙ pointwise_same row_eq (λ x. row_same_as x x refl) xs ys h))
+
+-- ---- closed canonical clauses
+pub closed_variants : (c d : Meaning) (r : Bool) → IsCanonical c → IsCanonical d → IsTrue r ↔ (c ≡ d) → IsClosed c → IsClosed d → IsTrue r ↔ AreVariants c d
+closed_variants c d r hc hd equal kc kd =
+    let v = variants_exactly c d hc.rising hd.rising kc kd in
+    ((λ t. v.0 (hc.form ∙ (equal.0 t ∙ sym hd.form))), (λ w. equal.1 (sym hc.form ∙ (v.1 w ∙ hd.form))))

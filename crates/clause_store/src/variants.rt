@@ -2,6 +2,7 @@
 
 ghost use Rattle.std.specs.Prelude.{◌≡◌, ◌↔◌, IsTrue};
 ghost use Rattle.term_store.specs.Trees.{trees_at, AreIn};
+ghost use Rattle.clause_model.specs.Variants.{IsClosed, AreVariants};
 ghost use Rattle.clause_store.specs.Stored.{clause_in, IsStored};
 
 use crate::clause::Clause;
@@ -36,9 +37,8 @@ fn same_terms(store: &Store, a: &[Term], b: &[Term]) -> bool
     }
 }
 
-/// Whether the clauses are equal. They are canonical, so this is exactly where they are equal up to the numbers of
-/// their variables. It takes no memory.
-pub fn variant(store: &Store, a: &Clause, b: &Clause) -> bool
+/// Whether the clauses are equal.
+fn are_equal(store: &Store, a: &Clause, b: &Clause) -> bool
     requires first { IsStored store.now a.now }
     requires second { IsStored store.now b.now }
     ensures { IsTrue result ↔ (clause_in store.now a.now ≡ clause_in store.now b.now) }
@@ -53,4 +53,15 @@ pub fn variant(store: &Store, a: &Clause, b: &Clause) -> bool
         return false;
     }
     same_terms(store, a.atoms.as_slice(), b.atoms.as_slice())
+}
+
+/// Whether the clauses are equal. They are canonical, so closed clauses, whose row variables are all in the head or an
+/// atom, are equal exactly where a renaming that keeps sorts maps one to the other. It takes no memory.
+pub fn variant(store: &Store, a: &Clause, b: &Clause) -> bool
+    requires first { IsStored store.now a.now }
+    requires second { IsStored store.now b.now }
+    ensures equal { IsTrue result ↔ (clause_in store.now a.now ≡ clause_in store.now b.now) }
+    ensures renamed { IsClosed (clause_in store.now a.now) → IsClosed (clause_in store.now b.now) → IsTrue result ↔ AreVariants (clause_in store.now a.now) (clause_in store.now b.now) }
+{
+    are_equal(store, a, b)
 }
