@@ -1,0 +1,6 @@
+pub mod SameTree
+pub mod State
+pub mod Rewriting
+pub mod Unfolding
+pub mod Merging
+pub mod After
