@@ -1,0 +1,7 @@
+mod PlainTexts
+mod Order
+mod Terms
+mod Programs
+mod Loading
+mod Printable
+mod Laws

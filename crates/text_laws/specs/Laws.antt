@@ -1,0 +1,36 @@
+-- The laws of what is read, loaded and printed.
+use Rattle.std.specs.Prelude.{◌≡◌, ◌≤◌, List, map, length, All, Some, Ok}
+use Rattle.clp_model.specs.Clauses.{Clause}
+use Rattle.clp_model.specs.Predicates.{initial_predicates}
+use Rattle.clause_model.specs.Canonical.{HasRisingRows, new_clause}
+use Rattle.clause_model.specs.Solved.{RowsAreNum}
+use Rattle.clause_model.specs.Load.{load, load_one, made_of, sizes_of}
+use Rattle.clause_store.specs.declared.source.SourceClause.{SourceClause}
+use Rattle.clause_store.specs.Source.{meaning_of}
+use Rattle.clause_loader.specs.WellFormed.{IsWellFormed}
+use Rattle.print_model.specs.Clauses.{program_text}
+use Rattle.clp_grammar.specs.Grammar.{program, max_clauses}
+use Rattle.clp_grammar.specs.Readable.{IsReadable, AreReadable, IsPrintable}
+
+-- what is read may be loaded: heads and body atoms are applications, and each variable has its sort
+abbrev pub WhatIsReadIsWellFormed : Type 0
+WhatIsReadIsWellFormed = (cs : List SourceClause) → AreReadable cs → All IsWellFormed cs
+
+-- the variables of its rows are Num, and rise
+abbrev pub WhatIsReadHasOrderlyRows : Type 0
+WhatIsReadHasOrderlyRows = (c : SourceClause) → IsReadable c → RowsAreNum (meaning_of c) × HasRisingRows (meaning_of c)
+
+-- a clause that was read has no equations to solve, so it has a place or is refused
+abbrev pub WhatIsReadIsLoadedAsNew : Type 0
+WhatIsReadIsLoadedAsNew = (c : SourceClause) → IsReadable c → load_one (meaning_of c) ≡ made_of (new_clause (meaning_of c))
+
+-- what a clause that was read is loaded as can be printed, and read again
+abbrev pub WhatIsLoadedIsPrintable : Type 0
+WhatIsLoadedIsPrintable = (c : SourceClause) (d : Clause) → IsReadable c → load_one (meaning_of c) ≡ Ok (Some d) → IsPrintable d
+
+-- the text of clauses within the limits is read, and what is read is loaded as these clauses
+abbrev pub PrintedProgramsAreLoadedAgain : Type 0
+PrintedProgramsAreLoadedAgain =
+    (cs : List Clause) → length cs ≤ max_clauses → All IsPrintable cs → sizes_of (map Some cs) ≤ 8388608
+    → (source : List SourceClause) × (program (program_text cs) ≡ Ok source) × AreReadable source
+    × (load (map meaning_of source) ≡ Ok (record { clauses = map Some cs; predicates = initial_predicates cs }))

@@ -1,0 +1,26 @@
+//! Laws of the texts of programs: what is read may be loaded, what is loaded of it can be printed, and what is printed
+//! is read and loaded again as just these clauses. There is no code here: each law is the contract of an empty
+//! function.
+#![tactic(auto)]
+
+ghost use Rattle.text_laws.specs.Laws.{WhatIsReadIsWellFormed, WhatIsReadHasOrderlyRows, WhatIsReadIsLoadedAsNew, WhatIsLoadedIsPrintable, PrintedProgramsAreLoadedAgain};
+
+/// What is read may be loaded: heads and body atoms are applications, each variable has its sort, and the variables of
+/// rows, of which there are none yet, are numbers and rise.
+pub fn what_is_read_is_well_formed()
+    ensures formed { WhatIsReadIsWellFormed }
+    ensures rows { WhatIsReadHasOrderlyRows }
+{}
+
+/// A clause that was read has no equations to solve, so what it is loaded as is the new clause that it makes; and this
+/// can be printed: its names are plain, it has no rows, and its variables may be any values.
+pub fn what_is_loaded_is_printable()
+    ensures made { WhatIsReadIsLoadedAsNew }
+    ensures printable { WhatIsLoadedIsPrintable }
+{}
+
+/// What is printed of at most 4,096 clauses that can be printed, whose sizes are together at most 8,388,608, is read
+/// and loaded as just these clauses.
+pub fn printed_programs_are_loaded_again()
+    ensures { PrintedProgramsAreLoadedAgain }
+{}
