@@ -4,4 +4,5 @@ mod Terms
 mod Programs
 mod Loading
 mod Printable
+mod Plain
 mod Laws

@@ -59,7 +59,7 @@ are_words : (bs : List ℕ) → AreWord bs → are_word bs ≡ true
 are_words [] h = refl
 are_words (b ∷ bs) h = rw h.0 (are_words bs h.1)
 
-name_is_plain : (name : List ℕ) → IsPlainName name → is_plain name ≡ true
+pub name_is_plain : (name : List ℕ) → IsPlainName name → is_plain name ≡ true
 name_is_plain [] h = absurd h
 name_is_plain (b ∷ bs) h = rw h.0 (are_words bs h.1.1)
 

@@ -2,13 +2,15 @@
 use Rattle.std.specs.Prelude.{◌≡◌, ◌≤◌, List, map, length, All, Some, Ok}
 use Rattle.clp_model.specs.Clauses.{Clause}
 use Rattle.clp_model.specs.Predicates.{initial_predicates}
-use Rattle.clause_model.specs.Canonical.{HasRisingRows, new_clause}
+use Rattle.clause_model.specs.Canonical.{HasRisingRows, IsCanonical, new_clause}
 use Rattle.clause_model.specs.Solved.{RowsAreNum}
 use Rattle.clause_model.specs.Load.{load, load_one, made_of, sizes_of}
 use Rattle.clause_store.specs.declared.source.SourceClause.{SourceClause}
 use Rattle.clause_store.specs.Source.{meaning_of}
 use Rattle.clause_loader.specs.WellFormed.{IsWellFormed}
 use Rattle.print_model.specs.Clauses.{program_text}
+use Rattle.name_laws.specs.Names.{AreOver, EquationsHaveNames, IsPure}
+use Rattle.text_laws.specs.Plain.{is_short_plain, is_ordinary}
 use Rattle.clp_grammar.specs.Grammar.{program, max_clauses}
 use Rattle.clp_grammar.specs.Readable.{IsReadable, AreReadable, IsPrintable}
 
@@ -27,6 +29,18 @@ WhatIsReadIsLoadedAsNew = (c : SourceClause) → IsReadable c → load_one (mean
 -- what a clause that was read is loaded as can be printed, and read again
 abbrev pub WhatIsLoadedIsPrintable : Type 0
 WhatIsLoadedIsPrintable = (c : SourceClause) (d : Clause) → IsReadable c → load_one (meaning_of c) ≡ Ok (Some d) → IsPrintable d
+
+-- names and predicates that are read, no rows, and variables that may be any values
+pub record IsPlain (c : Clause) : Type 0 where
+  pub names : AreOver is_short_plain is_ordinary c
+  pub pure : IsPure c
+
+-- so are the clauses that were read, and so is what the rules make of such clauses
+abbrev pub WhatIsReadIsPlain : Type 0
+WhatIsReadIsPlain = (c : SourceClause) → IsReadable c → IsPlain (meaning_of c) × EquationsHaveNames is_short_plain (meaning_of c)
+
+abbrev pub PlainClausesArePrintable : Type 0
+PlainClausesArePrintable = (c : Clause) → IsCanonical c → IsPlain c → IsPrintable c
 
 -- the text of clauses within the limits is read, and what is read is loaded as these clauses
 abbrev pub PrintedProgramsAreLoadedAgain : Type 0

@@ -3,7 +3,7 @@
 //! function.
 #![tactic(auto)]
 
-ghost use Rattle.text_laws.specs.Laws.{WhatIsReadIsWellFormed, WhatIsReadHasOrderlyRows, WhatIsReadIsLoadedAsNew, WhatIsLoadedIsPrintable, PrintedProgramsAreLoadedAgain};
+ghost use Rattle.text_laws.specs.Laws.{WhatIsReadIsWellFormed, WhatIsReadHasOrderlyRows, WhatIsReadIsLoadedAsNew, WhatIsLoadedIsPrintable, WhatIsReadIsPlain, PlainClausesArePrintable, PrintedProgramsAreLoadedAgain};
 
 /// What is read may be loaded: heads and body atoms are applications, each variable has its sort, and the variables of
 /// rows, of which there are none yet, are numbers and rise.
@@ -17,6 +17,13 @@ pub fn what_is_read_is_well_formed()
 pub fn what_is_loaded_is_printable()
     ensures made { WhatIsReadIsLoadedAsNew }
     ensures printable { WhatIsLoadedIsPrintable }
+{}
+
+/// The names and predicates of what is read pass two tests, and it has no rows and no variables that are numbers. Rules
+/// keep this of the clauses that they rewrite, and a canonical clause of which it holds can be printed.
+pub fn plain_clauses_are_printable()
+    ensures read { WhatIsReadIsPlain }
+    ensures printable { PlainClausesArePrintable }
 {}
 
 /// What is printed of at most 4,096 clauses that can be printed, whose sizes are together at most 8,388,608, is read
