@@ -1,0 +1,6 @@
+pub mod Seen
+pub mod Inside
+pub mod SeenCode
+pub mod Faults
+pub mod Changes
+pub mod Rows
