@@ -1,0 +1,15 @@
+pub mod Variables
+pub mod Sound
+pub mod Solved
+pub mod Numbered
+pub mod Held
+pub mod Live
+pub mod Made
+pub mod Rewritten
+pub mod SameTree
+pub mod Unfolded
+pub mod Merged
+pub mod Running
+pub mod Provable
+pub mod Starting
+pub mod Loaded

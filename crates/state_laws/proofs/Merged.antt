@@ -1,0 +1,154 @@
+-- An accepted merge keeps the state.
+use Rattle.std.proofs.Common.{◌≡◌, ◌≢◌, ℕ, zero, suc, ◌+◌, ◌-◌, ◌<◌, List, [], ◌∷◌, length, refl, sym, ◌∙◌, ap, subst, arith, inl, inr, Bool, true, false, eq-eqb}
+use Rattle.std.specs.Prelude.{Option, Some, None, Ok, slice_index_or, nat_eq, not, if◌then◌else◌, Contains}
+use Rattle.clp_model.specs.declared.tree.Tree.{Tree, Var}
+use Rattle.clp_model.specs.Clauses.{Clause}
+use Rattle.clp_model.proofs.Membership.{Among, first}
+use Rattle.clp_meaning.specs.Laws.{HasTwice, without_atom}
+use Rattle.clp_rank.specs.Entries.{Entry as Marked, setting}
+use Rattle.clp_rank.proofs.Narrowing.{narrowing_keeps}
+use Rattle.unify_laws.proofs.Solved.{among_cases}
+use Rattle.clause_model.specs.Canonical.{new_clause, canonical_form, IsCanonical}
+use Rattle.rule_laws.specs.Steps.{IsHeld, IsMerge}
+use Rattle.rule_laws.proofs.Merging.{narrows}
+use Rattle.map_model.specs.declared.step.Step.TheVariants.{Merge}
+use Rattle.map_model.specs.declared.refusal.Refusal.{Refusal}
+use Rattle.map_model.specs.declared.refusal.Refusal.TheVariants.{NoAtom, RepeatedPosition, NotEqualAtoms}
+use Rattle.map_model.specs.State.{Entry, State, live_at, base_clauses}
+use Rattle.map_model.specs.SameTree.{same_tree}
+use Rattle.map_model.specs.Rewriting.{Draft, rewritten}
+use Rattle.map_model.specs.Merging.{in_range, atom_of, first_broken, merged, merge_of, merge_after}
+use Rattle.map_model.specs.Rewriting.{unless_broken}
+use Rattle.state_laws.specs.KeptState.{marked, live_of, base_of, defined_by, IsKeptState}
+use Rattle.state_laws.proofs.SameTree.{same_tree_is}
+use Rattle.state_laws.proofs.Held.{new_is_held, without_is_held}
+use Rattle.state_laws.proofs.Live.{goes_from}
+use Rattle.state_laws.proofs.Made.{Makes, entry_for}
+use Rattle.state_laws.proofs.Rewritten.{Rewrites, found_live, rewritten_is, is_marked, drafted_by, now_live, was, kept, old, state_after, base_after, entry_held, entry_canonical}
+use Rattle.state_laws.proofs.Unfolded.{place_of}
+
+-- ---- the positions of a merge that is not refused
+record Positions (atoms : List (Tree ℕ)) (i j : ℕ) : Type 0 where
+  low : 0 < i
+  high : i - 1 < length atoms
+  other_low : 0 < j
+  other_high : j - 1 < length atoms
+  apart : i ≢ j
+  same : slice_index_or atoms (i - 1) (Var 0) ≡ slice_index_or atoms (j - 1) (Var 0)
+
+no_refusal : (r : Refusal) → ◌≡◌ {A = Option Refusal} (Some r) None → ⊥
+no_refusal r e = cc
+
+different : (m n : ℕ) → nat_eq m n ≡ false → m ≢ n
+different m n h e = let k = eq-eqb m n e in cc
+
+positions : (atoms : List (Tree ℕ)) (i j : ℕ) → first_broken atoms i j ≡ None → Positions atoms i j
+positions atoms i j = by (in_range (length atoms) i) refl (in_range (length atoms) j) refl (nat_eq i j) refl (same_tree (atom_of atoms i) (atom_of atoms j)) refl
+  where
+    by : (a : Bool) → in_range (length atoms) i ≡ a → (b : Bool) → in_range (length atoms) j ≡ b → (c : Bool) → nat_eq i j ≡ c → (d : Bool) → same_tree (atom_of atoms i) (atom_of atoms j) ≡ d
+        → (if not a then Some (NoAtom i) else (if not b then Some (NoAtom j) else (if c then Some (RepeatedPosition j) else (if not d then Some (NotEqualAtoms i j) else None)))) ≡ None
+        → Positions atoms i j
+    by false ea b eb c ec d ed h = absurd (no_refusal (NoAtom i) h)
+    by true ea false eb c ec d ed h = absurd (no_refusal (NoAtom j) h)
+    by true ea true eb true ec d ed h = absurd (no_refusal (RepeatedPosition j) h)
+    by true ea true eb false ec false ed h = absurd (no_refusal (NotEqualAtoms i j) h)
+    by true ea true eb false ec true ed h =
+        let p = place_of (length atoms) i ea in
+        let q = place_of (length atoms) j eb in
+        record { low = p.0; high = p.1; other_low = q.0; other_high = q.1; apart = different i j ec; same = same_tree_is _ _ ed }
+
+-- any default serves within the list
+other_default : {A : Type 0} (xs : List A) (k : ℕ) (d e : A) → k < length xs → slice_index_or xs k d ≡ slice_index_or xs k e
+other_default [] k d e h = absurd (omega arith)
+other_default (x ∷ xs) zero d e h = refl
+other_default (x ∷ xs) (suc k) d e h = other_default xs k d e (omega arith)
+
+has_twice : (c : Clause) (i j : ℕ) → Positions c.body i j → HasTwice c (i - 1) (j - 1)
+has_twice c i j p =
+    let a = p.low in let b = p.other_low in
+    record {
+      apart = λ e. p.apart (omega arith);
+      first_within = p.high;
+      second_within = p.other_high;
+      same = λ d. other_default c.body (i - 1) d (Var 0) p.high ∙ p.same ∙ other_default c.body (j - 1) (Var 0) d p.other_high;
+    }
+
+-- an accepted merge in a live clause that has an atom twice
+pub record Merges (s t : State) (id i j : ℕ) : Type 0 where
+  pub entry : Entry
+  pub rewrites : Rewrites s t id entry (merged entry id j ∷ [])
+  pub twice : HasTwice entry.clause (i - 1) (j - 1)
+
+pub merges_so : (s t : State) (id i j : ℕ) → merge_after s id i j ≡ Ok t → Merges s t id i j
+merges_so s t id i j h = by (live_at s id) refl h
+  where
+    unbroken : (e : Entry) → live_at s id ≡ Some e → (o : Option Refusal) → first_broken e.clause.body i j ≡ o
+        → unless_broken o (rewritten s (record { dead = id ∷ []; made = merged e id j ∷ []; defines = None; step = Merge id i j })) ≡ Ok t → Merges s t id i j
+    unbroken e q (Some x) r h = absurd (cc)
+    unbroken e q None r h =
+        let l = found_live s id e q in
+        let w = rewritten_is s t (record { dead = id ∷ []; made = merged e id j ∷ []; defines = None; step = Merge id i j }) h in
+        record {
+          entry = e;
+          rewrites = record { here = l.0; is_live = l.1; step = Merge id i j; entries = w.0; made = w.1; is = w.2 };
+          twice = has_twice e.clause i j (positions e.clause.body i j r);
+        }
+
+    by : (o : Option Entry) → live_at s id ≡ o → merge_of s id i j o ≡ Ok t → Merges s t id i j
+    by None q h = absurd (cc)
+    by (Some e) q h = unbroken e q (first_broken e.clause.body i j) refl h
+
+module _ (s t : State) (id i j : ℕ) (u : Merges s t id i j) where
+  abbrev e : Entry
+  e = u.entry
+
+  abbrev drafts : List Draft
+  drafts = merged e id j ∷ []
+
+  abbrev less : Clause
+  less = without_atom e.clause (j - 1)
+
+  abbrev narrower : Marked
+  narrower = record { clause = canonical_form less; mark = e.mark }
+
+  pub merge_keeps_base : base_clauses t ≡ base_clauses s
+  merge_keeps_base = base_after s t id e drafts u.rewrites
+
+  module _ (k : IsKeptState s) where
+    e_held : IsHeld e.clause
+    e_held = entry_held s k e (goes_from e s.entries (id - 1) u.rewrites.here u.rewrites.is_live)
+
+    e_canonical : IsCanonical e.clause
+    e_canonical = entry_canonical s k e (goes_from e s.entries (id - 1) u.rewrites.here u.rewrites.is_live)
+
+    -- each new entry is that of the narrower clause
+    new_is : (d : Draft) (x : Entry) (n : ℕ) → Among d drafts → Makes n d x → (marked x ≡ narrower) × IsHeld x.clause × IsCanonical x.clause
+    new_is d x n a m = among_cases a
+        (λ q.
+        let c : new_clause less ≡ Ok x.clause = ap (λ (y : Draft). new_clause y.clause) (sym q) ∙ m.clause in
+        let h = new_is_held less x.clause (without_is_held e.clause (j - 1) e_held) e_canonical.rising c in
+        (is_marked x (canonical_form less) e.mark h.0 (m.mark ∙ ap (λ (y : Draft). y.mark) q), h.1, h.2))
+        (λ b. elim b [ ])
+
+    made_now : Contains (live_of t) narrower
+    made_now =
+        let v = entry_for (length s.steps + 1) drafts u.rewrites.entries u.rewrites.made (merged e id j) first in
+        subst (λ y. Contains (live_of t) y) (new_is (merged e id j) v.0 (length s.steps + 1) first v.2).0 (now_live s t id e drafts u.rewrites v.0 v.1)
+
+    is_merge : IsMerge (live_of s) (live_of t) (marked e) (i - 1) (j - 1)
+    is_merge = record {
+      was = was s t id e drafts u.rewrites;
+      held = e_held;
+      twice = u.twice;
+      now = made_now;
+      kept = kept s t id e drafts u.rewrites;
+      old = λ r l. elim (old s t id e drafts u.rewrites r l) [
+        | inl a ↦ inr a
+        | inr m ↦ let d = drafted_by s t id e drafts u.rewrites m.0 m.1 in inl (m.2 ∙ (new_is d.0 m.0 (length s.steps + 1) d.1 d.2).0)
+      ];
+    }
+
+    pub merge_keeps_state : IsKeptState t
+    merge_keeps_state = state_after s t id e drafts u.rewrites k
+        (narrowing_keeps (setting (defined_by s)) (Contains (base_of s)) (Contains (live_of s)) (Contains (live_of t)) (marked e) narrower (narrows (defined_by s) (live_of s) (live_of t) (marked e) (i - 1) (j - 1) is_merge) k.ranked)
+        (λ x a. let d = drafted_by s t id e drafts u.rewrites x a in let h = new_is d.0 x (length s.steps + 1) d.1 d.2 in (h.1, h.2))

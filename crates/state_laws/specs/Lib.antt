@@ -1,0 +1,3 @@
+pub mod WellFormed
+pub mod KeptState
+pub mod Laws

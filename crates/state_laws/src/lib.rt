@@ -1,0 +1,48 @@
+//! What every state of an accepted run is: its live clauses are ranked over its base, and so prove just what the base
+//! proves. The rank is that of total correctness by Tamaki and Sato (1984). There is no code here: each law is the
+//! contract of an empty function.
+#![tactic(auto)]
+
+ghost use Rattle.state_laws.specs.Laws.{LoadedClausesAreHeld, LoadedProgramsAreHeld, StartStateIsKept, StartStateHasItsClauses, AcceptedStepKeepsState, AcceptedStepKeepsBase, AcceptedRunKeepsState, AcceptedRunKeepsBase, LiveAndBaseProveTheSame, RunKeepsProvability, LoadingKeepsProvability, RunOfLoadedProgramKeepsProvability};
+
+/// A well-formed source clause is loaded as a clause without equations, whose head and atoms are applications, whose
+/// variables have their places, and whose rows have Num variables alone; and this clause is canonical. So is each
+/// clause of a loaded program.
+pub fn loaded_clauses_are_held()
+    ensures clause { LoadedClausesAreHeld }
+    ensures program { LoadedProgramsAreHeld }
+{}
+
+/// The start state of such clauses is ranked, and they are its base.
+pub fn start_state_is_kept()
+    ensures state { StartStateIsKept }
+    ensures clauses { StartStateHasItsClauses }
+{}
+
+/// An accepted step keeps the rank, and the base.
+pub fn accepted_step_keeps_state()
+    ensures state { AcceptedStepKeepsState }
+    ensures base { AcceptedStepKeepsBase }
+{}
+
+/// An accepted run keeps the rank, and the base.
+pub fn accepted_run_keeps_state()
+    ensures state { AcceptedRunKeepsState }
+    ensures base { AcceptedRunKeepsBase }
+{}
+
+/// In such a state the live clauses and the base prove the same.
+pub fn live_and_base_prove_the_same()
+    ensures { LiveAndBaseProveTheSame }
+{}
+
+/// After an accepted run the live clauses prove what the clauses at its start prove.
+pub fn run_keeps_provability()
+    ensures { RunKeepsProvability }
+{}
+
+/// A loaded program proves what its source proves, and so do the live clauses after an accepted run from it.
+pub fn loading_keeps_provability()
+    ensures loaded { LoadingKeepsProvability }
+    ensures run { RunOfLoadedProgramKeepsProvability }
+{}
