@@ -4,7 +4,7 @@ use Rattle.std.proofs.lemmas.List.Elements.{All-weaker}
 use Rattle.clause_model.specs.Canonical.{IsCanonical}
 use Rattle.clause_model.specs.Load.{load}
 use Rattle.clp_grammar.specs.Readable.{IsPrintable}
-use Rattle.text_laws.specs.Laws.{WhatIsReadIsWellFormed, WhatIsReadHasOrderlyRows, WhatIsReadIsLoadedAsNew, WhatIsLoadedIsPrintable, PrintedProgramsAreLoadedAgain}
+use Rattle.text_laws.specs.Laws.{WhatIsReadIsWellFormed, WhatIsReadHasOrderlyRows, WhatIsReadIsLoadedAsNew, WhatIsLoadedIsPrintable, PrintedProgramsAreReadAgain, PrintedProgramsAreLoadedAgain}
 use Rattle.text_laws.proofs.Programs.{program_again}
 use Rattle.text_laws.proofs.Loading.{loaded_again}
 use Rattle.text_laws.proofs.Printable.{all_well_formed, rows_are_num, rows_rise, read_is_new, loaded_is_printable}
@@ -20,6 +20,9 @@ what_is_read_is_loaded_as_new = read_is_new
 
 pub what_is_loaded_is_printable : WhatIsLoadedIsPrintable
 what_is_loaded_is_printable = loaded_is_printable
+
+pub printed_programs_are_read_again : PrintedProgramsAreReadAgain
+printed_programs_are_read_again = program_again
 
 pub printed_programs_are_loaded_again : PrintedProgramsAreLoadedAgain
 printed_programs_are_loaded_again cs few printable small =

@@ -1,8 +1,8 @@
-mod PlainTexts
-mod Order
-mod Terms
-mod Programs
-mod Loading
-mod Printable
-mod Plain
-mod Laws
+pub mod PlainTexts
+pub mod Order
+pub mod Terms
+pub mod Programs
+pub mod Loading
+pub mod Printable
+pub mod Plain
+pub mod Laws

@@ -42,6 +42,12 @@ WhatIsReadIsPlain = (c : SourceClause) → IsReadable c → IsPlain (meaning_of 
 abbrev pub PlainClausesArePrintable : Type 0
 PlainClausesArePrintable = (c : Clause) → IsCanonical c → IsPlain c → IsPrintable c
 
+-- the text of at most so many clauses is read as just these clauses
+abbrev pub PrintedProgramsAreReadAgain : Type 0
+PrintedProgramsAreReadAgain =
+    (cs : List Clause) → length cs ≤ max_clauses → All IsPrintable cs
+    → (source : List SourceClause) × (program (program_text cs) ≡ Ok source) × AreReadable source × (map meaning_of source ≡ cs)
+
 -- the text of clauses within the limits is read, and what is read is loaded as these clauses
 abbrev pub PrintedProgramsAreLoadedAgain : Type 0
 PrintedProgramsAreLoadedAgain =

@@ -3,7 +3,7 @@
 //! function.
 #![tactic(auto)]
 
-ghost use Rattle.text_laws.specs.Laws.{WhatIsReadIsWellFormed, WhatIsReadHasOrderlyRows, WhatIsReadIsLoadedAsNew, WhatIsLoadedIsPrintable, WhatIsReadIsPlain, PlainClausesArePrintable, PrintedProgramsAreLoadedAgain};
+ghost use Rattle.text_laws.specs.Laws.{WhatIsReadIsWellFormed, WhatIsReadHasOrderlyRows, WhatIsReadIsLoadedAsNew, WhatIsLoadedIsPrintable, WhatIsReadIsPlain, PlainClausesArePrintable, PrintedProgramsAreReadAgain, PrintedProgramsAreLoadedAgain};
 
 /// What is read may be loaded: heads and body atoms are applications, each variable has its sort, and the variables of
 /// rows, of which there are none yet, are numbers and rise.
@@ -26,8 +26,9 @@ pub fn plain_clauses_are_printable()
     ensures printable { PlainClausesArePrintable }
 {}
 
-/// What is printed of at most 4,096 clauses that can be printed, whose sizes are together at most 8,388,608, is read
-/// and loaded as just these clauses.
+/// What is printed of at most 4,096 clauses that can be printed is read as just these clauses; and where their sizes are
+/// together at most 8,388,608, these are loaded again, each in its place.
 pub fn printed_programs_are_loaded_again()
-    ensures { PrintedProgramsAreLoadedAgain }
+    ensures read { PrintedProgramsAreReadAgain }
+    ensures loaded { PrintedProgramsAreLoadedAgain }
 {}
