@@ -1,0 +1,57 @@
+-- The text of a refusal.
+use Rattle.std.specs.Prelude.{ℕ, List, [], ◌++◌, codes, decimal}
+use Rattle.clp_model.specs.declared.limit.Limit.{Limit}
+use Rattle.clp_model.specs.declared.limit.Limit.TheVariants.{Shape, Atoms, Variables, Rows, Clauses, Nodes, Steps, Chain}
+use Rattle.case_table.specs.declared.limit_word.LimitWord.{LimitWord}
+use Rattle.case_table.specs.declared.limit_word.LimitWord.TheVariants as limit
+use Rattle.case_table.specs.declared.refusal_word.RefusalWord.{RefusalWord}
+use Rattle.case_table.specs.declared.refusal_word.RefusalWord.TheVariants as word
+use Rattle.case_table.specs.Limits.{limit_word}
+use Rattle.case_table.specs.Refusals.{refusal_word}
+use Rattle.map_model.specs.declared.refusal.Refusal.{Refusal}
+use Rattle.map_model.specs.declared.refusal.Refusal.TheVariants.{NoClause, NoAtom, RepeatedPosition, NotEqualAtoms, Overflow, TooLarge, NoMemory}
+
+-- a limit as a case of the table of their words
+abbrev pub limit_case : Limit → LimitWord
+limit_case Shape = limit.Shape
+limit_case Atoms = limit.Atoms
+limit_case Variables = limit.Variables
+limit_case Rows = limit.Rows
+limit_case Clauses = limit.Clauses
+limit_case Nodes = limit.Nodes
+limit_case Steps = limit.Steps
+limit_case Chain = limit.Chain
+
+-- the number that the line begins with
+abbrev pub refusal_number : Refusal → ℕ
+refusal_number (NoClause id) = 1
+refusal_number (NoAtom position) = 2
+refusal_number (RepeatedPosition position) = 4
+refusal_number (NotEqualAtoms first second) = 21
+refusal_number (Overflow place) = 23
+refusal_number (TooLarge limit) = 24
+refusal_number NoMemory = 25
+
+-- a refusal without its fields
+abbrev pub refusal_case : Refusal → RefusalWord
+refusal_case (NoClause id) = word.NoClause
+refusal_case (NoAtom position) = word.NoAtom
+refusal_case (RepeatedPosition position) = word.RepeatedPosition
+refusal_case (NotEqualAtoms first second) = word.NotEqualAtoms
+refusal_case (Overflow place) = word.Overflow
+refusal_case (TooLarge limit) = word.TooLarge
+refusal_case NoMemory = word.NoMemory
+
+-- the fields, each after a space
+abbrev pub refusal_fields : Refusal → List ℕ
+refusal_fields (NoClause id) = codes " " ++ decimal id
+refusal_fields (NoAtom position) = codes " " ++ decimal position
+refusal_fields (RepeatedPosition position) = codes " " ++ decimal position
+refusal_fields (NotEqualAtoms first second) = codes " " ++ decimal first ++ codes " " ++ decimal second
+refusal_fields (Overflow place) = codes " " ++ decimal place
+refusal_fields (TooLarge limit) = codes " " ++ limit_word (limit_case limit)
+refusal_fields NoMemory = []
+
+-- number, words and fields
+abbrev pub refusal_line : Refusal → List ℕ
+refusal_line r = decimal (refusal_number r) ++ codes " " ++ refusal_word (refusal_case r) ++ refusal_fields r
