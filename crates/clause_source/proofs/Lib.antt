@@ -1,0 +1,4 @@
+pub mod Numbered
+pub mod Printed
+pub mod Counts
+pub mod Sources
