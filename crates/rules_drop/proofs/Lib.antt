@@ -1,0 +1,3 @@
+pub mod SameTree
+pub mod SameTrees
+pub mod Removing
