@@ -16,9 +16,8 @@ use Rattle.map_model.specs.declared.refusal.Refusal.{Refusal}
 use Rattle.map_model.specs.declared.refusal.Refusal.TheVariants.{NoAtom, RepeatedPosition, NotEqualAtoms}
 use Rattle.map_model.specs.State.{Entry, State, live_at, base_clauses}
 use Rattle.map_model.specs.SameTree.{same_tree}
-use Rattle.map_model.specs.Rewriting.{Draft, rewritten}
+use Rattle.map_model.specs.Rewriting.{Draft, rewritten, unless_broken}
 use Rattle.map_model.specs.Merging.{in_range, atom_of, first_broken, merged, merge_of, merge_after}
-use Rattle.map_model.specs.Rewriting.{unless_broken}
 use Rattle.state_laws.specs.KeptState.{marked, live_of, base_of, defined_by, IsKeptState}
 use Rattle.state_laws.proofs.SameTree.{same_tree_is}
 use Rattle.state_laws.proofs.Held.{new_is_held, without_is_held}

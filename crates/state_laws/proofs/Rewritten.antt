@@ -64,11 +64,8 @@ rewritten_is s t r h = by (new_entries (length s.steps + 1) r.made) refl h
 later_step : (n : ℕ) → nat_eq (n + 1) 0 ≡ false
 later_step n = grind (arith, nat_tests)
 
-marks_same : (e : Entry) (c : Clause) (b : Bool) → e.clause ≡ c → e.mark ≡ b → marked e ≡ record { clause = c; mark = b }
-marks_same e c b p q = ap (λ x. let y : Marked = record { clause = x; mark = e.mark } in y) p ∙ ap (λ x. let y : Marked = record { clause = c; mark = x } in y) q
-
 pub is_marked : (e : Entry) (c : Clause) (b : Bool) → e.clause ≡ c → e.mark ≡ b → marked e ≡ record { clause = c; mark = b }
-is_marked e c b p q = marks_same e c b p q
+is_marked e c b p q = ap (λ x. let y : Marked = record { clause = x; mark = e.mark } in y) p ∙ ap (λ x. let y : Marked = record { clause = c; mark = x } in y) q
 
 module _ (s t : State) (id : ℕ) (entry : Entry) (drafts : List Draft) (m : Rewrites s t id entry drafts) where
   abbrev rest : List (Option Entry)
