@@ -4,13 +4,17 @@ use Rattle.std.proofs.lemmas.List.Elements.{All-weaker}
 use Rattle.clause_model.specs.Canonical.{IsCanonical}
 use Rattle.clause_model.specs.Load.{load}
 use Rattle.clp_grammar.specs.Readable.{IsPrintable}
-use Rattle.text_laws.specs.Laws.{WhatIsReadIsWellFormed, WhatIsReadHasOrderlyRows, WhatIsReadIsLoadedAsNew, WhatIsLoadedIsPrintable, PrintedProgramsAreReadAgain, PrintedProgramsAreLoadedAgain}
+use Rattle.text_laws.specs.Laws.{WhatIsReadIsReadable, WhatIsReadIsWellFormed, WhatIsReadHasOrderlyRows, WhatIsReadIsLoadedAsNew, WhatIsLoadedIsPrintable, PrintedProgramsAreReadAgain, PrintedProgramsAreLoadedAgain}
+use Rattle.clp_reader.proofs.Readable.{program_readable, readable_well_formed}
 use Rattle.text_laws.proofs.Programs.{program_again}
 use Rattle.text_laws.proofs.Loading.{loaded_again}
-use Rattle.text_laws.proofs.Printable.{all_well_formed, rows_are_num, rows_rise, read_is_new, loaded_is_printable}
+use Rattle.text_laws.proofs.Printable.{rows_are_num, rows_rise, read_is_new, loaded_is_printable}
+
+pub what_is_read_is_readable : WhatIsReadIsReadable
+what_is_read_is_readable = program_readable
 
 pub what_is_read_is_well_formed : WhatIsReadIsWellFormed
-what_is_read_is_well_formed = all_well_formed
+what_is_read_is_well_formed = readable_well_formed
 
 pub what_is_read_has_orderly_rows : WhatIsReadHasOrderlyRows
 what_is_read_has_orderly_rows c h = (rows_are_num c h, rows_rise c h)

@@ -1,5 +1,5 @@
 -- The laws of what is read, loaded and printed.
-use Rattle.std.specs.Prelude.{◌≡◌, ◌≤◌, List, map, length, All, Some, Ok}
+use Rattle.std.specs.Prelude.{◌≡◌, ◌≤◌, ℕ, List, map, length, All, Some, Ok}
 use Rattle.clp_model.specs.Clauses.{Clause}
 use Rattle.clp_model.specs.Predicates.{initial_predicates}
 use Rattle.clause_model.specs.Canonical.{HasRisingRows, IsCanonical, new_clause}
@@ -13,6 +13,11 @@ use Rattle.name_laws.specs.Names.{AreOver, EquationsHaveNames, IsPure}
 use Rattle.text_laws.specs.Plain.{is_short_plain, is_ordinary}
 use Rattle.clp_grammar.specs.Grammar.{program, max_clauses}
 use Rattle.clp_grammar.specs.Readable.{IsReadable, AreReadable, IsPrintable}
+
+-- heads and body atoms are applications of plain names and not `true` without arguments, each variable has its place,
+-- and brackets and clauses are within their limits
+abbrev pub WhatIsReadIsReadable : Type 0
+WhatIsReadIsReadable = (text : List ℕ) (cs : List SourceClause) → program text ≡ Ok cs → AreReadable cs
 
 -- what is read may be loaded: heads and body atoms are applications, and each variable has its sort
 abbrev pub WhatIsReadIsWellFormed : Type 0

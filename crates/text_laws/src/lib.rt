@@ -3,7 +3,14 @@
 //! function.
 #![tactic(auto)]
 
-ghost use Rattle.text_laws.specs.Laws.{WhatIsReadIsWellFormed, WhatIsReadHasOrderlyRows, WhatIsReadIsLoadedAsNew, WhatIsLoadedIsPrintable, WhatIsReadIsPlain, PlainClausesArePrintable, PrintedProgramsAreReadAgain, PrintedProgramsAreLoadedAgain};
+ghost use Rattle.text_laws.specs.Laws.{WhatIsReadIsReadable, WhatIsReadIsWellFormed, WhatIsReadHasOrderlyRows, WhatIsReadIsLoadedAsNew, WhatIsLoadedIsPrintable, WhatIsReadIsPlain, PlainClausesArePrintable, PrintedProgramsAreReadAgain, PrintedProgramsAreLoadedAgain};
+
+/// What a text is read as: heads and body atoms are applications of plain names and not `true` without arguments,
+/// variables have their sorts, which may be any values, there are no equations and no rows, and brackets and clauses are
+/// within their limits.
+pub fn what_is_read_is_readable()
+    ensures { WhatIsReadIsReadable }
+{}
 
 /// What is read may be loaded: heads and body atoms are applications, each variable has its sort, and the variables of
 /// rows, of which there are none yet, are numbers and rise.
