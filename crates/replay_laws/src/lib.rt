@@ -1,0 +1,13 @@
+//! What holds of every accepted replay: the headline. There is no code here: each law is the contract of an empty
+//! function.
+#![tactic(auto)]
+
+ghost use Rattle.std.specs.Prelude.{◌≡◌, ℕ, List, Ok};
+ghost use Rattle.map_model.specs.State.{State as S};
+ghost use Rattle.replay_model.specs.Replay.{replayed, output};
+ghost use Rattle.replay_model.specs.Headline.{KeepsProvability};
+
+/// What is printed of an accepted replay is a program that proves what the input program proves.
+pub fn replay_keeps_provability()
+    ensures { (p s : List ℕ) (t : S) → replayed p s ≡ Ok t → KeepsProvability p s (output t) }
+{}
