@@ -1,6 +1,6 @@
 -- Kept definitions by their predicates.
-use Rattle.std.proofs.Common.{◌≡◌, ℕ, suc, ◌+◌, ◌<◌, Bool, true, false, ◌&&◌, List, [], ◌∷◌, length, refl, ap, ◌∙◌, sym, subst, arith, drop, get_or, add-one, nat_eq}
-use Rattle.std.specs.Prelude.{Option, Some, IsTrue, ◌↔◌, if◌then◌else◌}
+use Rattle.std.proofs.Common.{◌≡◌, ℕ, suc, ◌+◌, ◌<◌, Bool, true, false, ◌&&◌, List, ◌∷◌, length, refl, ap, ◌∙◌, sym, subst, arith, drop, get_or, add-one, nat_eq}
+use Rattle.std.specs.Prelude.{Some, IsTrue, ◌↔◌, if◌then◌else◌}
 use Rattle.std.specs.Str.{bytes_eq}
 use Rattle.std.proofs.Math.Seq.{drop-cons}
 use Rattle.std.proofs.lemmas.Bool.{eqb-true}
@@ -10,7 +10,6 @@ use Rattle.std.proofs.lemmas.Slice.Eq.{bytes_eq-Decides}
 use Rattle.clp_model.specs.declared.tree.Tree.{Tree, App}
 use Rattle.clp_model.specs.declared.predicate.Pred.{Pred}
 use Rattle.clp_model.specs.Trees.{mapped, mapped_all, name_of, arguments_of, IsApplication}
-use Rattle.clp_model.specs.Clauses.{Clause}
 use Rattle.clp_model.specs.Predicates.{predicate_of, same_predicate}
 use Rattle.clp_model.proofs.Trees.{name_of_app, arguments_of_app, application_is, mapped_app}
 use Rattle.clp_model.proofs.RenamedTrees.{length_mapped}

@@ -1,7 +1,6 @@
 -- What a change makes of a state, and when it may take effect.
 use Rattle.std.specs.Prelude.{ℕ, ◌+◌, ◌-◌, ◌<◌, ◌≤◌, ◌≡◌, true, false, List, [], ◌∷◌, map, length, Option, Some, None, option_map, IsSome}
 use Rattle.clp_model.specs.declared.predicate.Pred.{Pred}
-use Rattle.clp_model.specs.Clauses.{Clause}
 use Rattle.clp_model.specs.Predicates.{predicate_of}
 use Rattle.clause_store.specs.Stored.{clause_in, IsStored}
 use Rattle.map_model.specs.declared.step.Step.{Step}
