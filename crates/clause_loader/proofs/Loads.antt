@@ -133,7 +133,7 @@ same_new f c head atoms rows sorts eh ea er es =
     twice g [] = refl
     twice g (r ∷ rs) = ap (λ (v : List Row). normal (renamed g r) ∷ v) (twice g rs)
 
-kept_within : (g : ℕ → ℕ) (rows kept : List Row) → kept ≡ map (λ r. normal (renamed g r)) rows → All IsKept kept → all_within (map (renamed g) rows) ≡ true
+pub kept_within : (g : ℕ → ℕ) (rows kept : List Row) → kept ≡ map (λ r. normal (renamed g r)) rows → All IsKept kept → all_within (map (renamed g) rows) ≡ true
 kept_within g rows kept e h = sym (within_normal (map (renamed g) rows)) ∙ ap all_within (sym (e ∙ twice rows)) ∙ within_kept kept h
   where
     twice : (rs : List Row) → map (λ r. normal (renamed g r)) rs ≡ map normal (map (renamed g) rs)
@@ -175,7 +175,7 @@ agree_trees sorts f g h (t ∷ ts) =
     ap (λ (x : Tree ℕ). x ∷ map (λ t. mapped number_of (with_images sorts f t)) ts) (agree_tree sorts f g h t)
     ∙ ap (λ (v : List (Tree ℕ)). mapped number_of (with_images sorts g t) ∷ v) (agree_trees sorts f g h ts)
 
-agree : (f g : Variable → Tree Variable) → ((v : Variable) → f v ≡ g v) → (c : Clause) → clause_by f c ≡ clause_by g c
+pub agree : (f g : Variable → Tree Variable) → ((v : Variable) → f v ≡ g v) → (c : Clause) → clause_by f c ≡ clause_by g c
 agree f g h c =
     let clause : Tree ℕ → List Row → List (Tree ℕ) → Clause = λ x r b. record { head = x; equations = []; rows = r; body = b; sorts = c.sorts } in
     let rows = renamed_as (number_by c.sorts f) (number_by c.sorts g) c.rows (each_all (λ n. number_by c.sorts f n ≡ number_by c.sorts g n) (rows_variables c.rows) (λ n m. ap variable_number (h (typed_variable c.sorts n)))) in

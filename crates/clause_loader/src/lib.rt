@@ -13,3 +13,4 @@ mod solving;
 
 pub use loading::load_one;
 pub use program::{LoadFault, Loaded, load};
+pub use rows::carried_rows;

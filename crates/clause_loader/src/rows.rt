@@ -120,7 +120,7 @@ fn renamed_rows(alloc: Global, rows: &[Row], table: &[u32]) -> Result<Items<Row>
 
 /// The rows in normal form, with the variables that theirs become where the equations are solved. `Overflow` exactly
 /// where the normal form of one is out of range.
-pub(crate) fn carried_rows(
+pub fn carried_rows(
     alloc: Global,
     store: &mut Store,
     s: &Subst,

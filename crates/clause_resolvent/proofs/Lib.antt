@@ -1,0 +1,6 @@
+mod RaisedTerms
+mod RaisedRows
+mod JoinedParts
+mod SamePredicate
+mod AppliedTerms
+mod ResolvedClause

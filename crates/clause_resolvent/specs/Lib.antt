@@ -1,0 +1,5 @@
+pub mod Raised
+pub mod Atoms
+pub mod Joined
+pub mod Applied
+pub mod Outcome
