@@ -1,0 +1,3 @@
+pub mod Digits
+pub mod Comments
+pub mod Closings
