@@ -4,11 +4,19 @@
 //! takes memory.
 #![tactic(auto)]
 
+mod cursor;
 mod mark;
 mod name;
 mod number;
 mod quoted;
+mod token;
+mod utf8;
 mod white;
+mod word;
 
+pub use cursor::Cursor;
+pub use name::name_of;
 pub use number::{MAX_NUMBER, number_value};
+pub use token::first_token;
+pub use utf8::not_utf8;
 pub use white::skip;

@@ -1,51 +1,66 @@
-//! Plain names and variables.
+//! The names that tokens stand for.
 
-ghost use Rattle.std.specs.Prelude.{◌≡◌, ◌≤◌, length};
+ghost use Rattle.std.specs.Prelude.{◌≡◌, IfOk};
+ghost use Rattle.std.specs.Str.{IsUtf8};
 ghost use Rattle.token_model.specs.Names as spec;
+ghost use Rattle.token_cursor.specs.Escapes as escape;
 
-use token_model::{Lexeme, Token};
+use crate::quoted::{between_quotes, is_mark};
+use clp_model::Name;
+use std::alloc::{AllocError, Global};
+use std::str;
+use token_model::Lexeme;
 
-/// How many bytes a name or a variable has at most.
-pub const MAX_NAME: usize = 255;
-
-fn is_word(b: u8) -> bool
-    ensures { result ≡ spec.is_word b }
+/// The byte that is meant, where the one before it only marks it or not.
+fn meant(after_mark: bool, b: u8) -> u8
+    ensures { result ≡ escape.meant after_mark b }
 {
-    b.is_ascii_alphanumeric() || b == b'_'
+    match b {
+        b'n' if after_mark => b'\n',
+        b't' if after_mark => b'\t',
+        _ => b,
+    }
 }
 
-fn word_len(text: &[u8]) -> usize
-    ensures value { result ≡ spec.word_len text.now }
-    ensures within { result ≤ length text.now }
+/// What is between two quotes, after its escapes.
+#[tactic(auto, unfolding(token_model::specs::Names::unescaped, token_model::specs::Names::after_mark))]
+fn unescaped(alloc: Global, inside: &[u8]) -> Result<Vec<u8>, AllocError>
+    ensures { IfOk result (λ v. v.items ≡ spec.unescaped inside.now) }
 {
-    for (at, b) in text.iter().enumerate() {
-        if !is_word(*b) {
-            return at;
+    let mut name = Vec::with_capacity(alloc, inside.len())?;
+    let mut marked = false;
+    for b in inside {
+        let marks = is_mark(marked, *b);
+        if !marks {
+            name.push(meant(marked, *b))?;
         }
+        marked = marks;
     }
-    text.len()
+    Ok(name)
 }
 
-/// Such a token, unless a name of this length is too long.
-pub fn unless_long(lexeme: Lexeme, len: usize) -> Lexeme
-    ensures { result ≡ spec.unless_long lexeme len }
+/// The text of bytes that are whole characters.
+fn text_of(bytes: &[u8]) -> &str
+    requires { IsUtf8 bytes.now }
+    ensures { result.now ≡ bytes.now }
 {
-    if len > MAX_NAME {
-        Lexeme::NameTooLong
-    } else {
-        lexeme
+    match str::from_utf8(bytes) {
+        Ok(text) => text,
+        Err(_) => unreachable!(),
     }
 }
 
-/// The name or the variable at the front of a text.
-#[tactic(auto, unfolding(token_model::specs::Names::word))]
-pub fn word(lexeme: Lexeme, text: &[u8]) -> Token
-    ensures value { result ≡ spec.word lexeme text.now }
-    ensures within { result.len ≤ length text.now }
+/// The name that a token of this spelling stands for: a plain one as it is, and a quoted one without its quotes and
+/// after its escapes.
+pub fn name_of(alloc: Global, spelling: &[u8], lexeme: Lexeme) -> Result<Name, AllocError>
+    requires { IsUtf8 (escape.name_by lexeme spelling.now) }
+    ensures { IfOk result (λ name. name ≡ escape.name_by lexeme spelling.now) }
 {
-    let len = word_len(text);
-    Token {
-        lexeme: unless_long(lexeme, len),
-        len,
+    match lexeme {
+        Lexeme::Quoted => {
+            let bytes = unescaped(alloc, between_quotes(spelling))?;
+            Name::copy_of(alloc, text_of(bytes.as_slice()))
+        }
+        _ => Name::copy_of(alloc, text_of(spelling)),
     }
 }

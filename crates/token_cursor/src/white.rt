@@ -9,8 +9,8 @@ pub fn is_white(b: u8) -> bool
     b == b' ' || b == b'\t' || b == b'\n' || b == b'\r'
 }
 
-#[tactic(auto, unfolding(token_model::specs::White::after_line, token_model::specs::White::skipped))]
 /// The text after the line that this begins in.
+#[tactic(auto, unfolding(token_model::specs::White::after_line, token_model::specs::White::skipped))]
 fn after_line(text: &[u8]) -> &[u8]
     ensures value { spec.skipped result.now ≡ spec.after_line text.now }
     ensures within { length result.now ≤ length text.now }
@@ -23,9 +23,9 @@ fn after_line(text: &[u8]) -> &[u8]
     &[]
 }
 
-#[tactic(auto, unfolding(token_model::specs::White::after_slash, token_model::specs::White::in_comment, token_model::specs::White::after_star))]
 /// The text after the comment that a slash begins, of which this is what follows the slash. None where it begins none,
 /// or one that isn't closed.
+#[tactic(auto, unfolding(token_model::specs::White::after_slash, token_model::specs::White::in_comment, token_model::specs::White::after_star))]
 fn after_comment(text: &[u8]) -> Option<&[u8]>
     ensures some { IfSome result (λ rest. (spec.after_slash text.now ≡ spec.skipped rest.now) × (length rest.now ≤ length text.now)) }
     ensures none { IfNone result (spec.after_slash text.now ≡ 47 ∷ text.now) }

@@ -1,0 +1,4 @@
+pub mod Singles
+pub mod Ahead
+pub mod Escapes
+pub mod Utf8
