@@ -4,3 +4,4 @@ pub mod Closings
 pub mod Singles
 pub mod Unescaping
 pub mod Spelled
+pub mod Texts
