@@ -1,0 +1,31 @@
+-- What white and comments change.
+use Rattle.std.specs.Prelude.{◌≡◌, ℕ, Bool, true, false, ◌&&◌, if◌then◌else◌, ◌==◌, List, [], ◌∷◌, ◌++◌}
+use Rattle.token_model.specs.White.{is_white, skipped}
+
+abbrev pub all_white : List ℕ → Bool
+all_white [] = true
+all_white (b ∷ bs) = is_white b && all_white bs
+
+-- there is no line feed
+abbrev pub in_line : List ℕ → Bool
+in_line [] = true
+in_line (b ∷ bs) = if b == 10 then false else in_line bs
+
+-- there is no `*/`; and none is ended by the first byte, after a `*`
+abbrev mutual
+  pub stays_open : List ℕ → Bool
+  stays_open [] = true
+  stays_open (b ∷ bs) = if b == 42 then open_after_star bs else stays_open bs
+
+  pub open_after_star : List ℕ → Bool
+  open_after_star [] = true
+  open_after_star (b ∷ bs) = if b == 47 then false else (if b == 42 then open_after_star bs else stays_open bs)
+
+abbrev pub WhiteChangesNothing : Type 0
+WhiteChangesNothing = (white text : List ℕ) → all_white white ≡ true → skipped (white ++ text) ≡ skipped text
+
+abbrev pub LineChangesNothing : Type 0
+LineChangesNothing = (line text : List ℕ) → in_line line ≡ true → skipped (37 ∷ (line ++ 10 ∷ text)) ≡ skipped text
+
+abbrev pub CommentChangesNothing : Type 0
+CommentChangesNothing = (inside text : List ℕ) → stays_open inside ≡ true → skipped (47 ∷ 42 ∷ (inside ++ 42 ∷ 47 ∷ text)) ≡ skipped text
