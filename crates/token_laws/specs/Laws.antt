@@ -1,5 +1,7 @@
--- What white and comments change.
-use Rattle.std.specs.Prelude.{◌≡◌, ℕ, Bool, true, false, ◌&&◌, if◌then◌else◌, ◌==◌, List, [], ◌∷◌, ◌++◌}
+-- What white and comments change, and which mark is taken.
+use Rattle.std.specs.Prelude.{◌≡◌, ◌≤◌, ◌⊎◌, length, ℕ, Bool, true, false, ◌&&◌, if◌then◌else◌, ◌==◌, List, [], ◌∷◌, ◌++◌}
+use Rattle.token_model.specs.declared.token.Lexeme.{Lexeme}
+use Rattle.token_model.specs.Marks.{begins_with, mark, marks}
 use Rattle.token_model.specs.White.{is_white, skipped}
 
 abbrev pub all_white : List ℕ → Bool
@@ -29,3 +31,12 @@ LineChangesNothing = (line text : List ℕ) → in_line line ≡ true → skippe
 
 abbrev pub CommentChangesNothing : Type 0
 CommentChangesNothing = (inside text : List ℕ) → stays_open inside ≡ true → skipped (47 ∷ 42 ∷ (inside ++ 42 ∷ 47 ∷ text)) ≡ skipped text
+
+-- it is one of these
+abbrev pub IsOneOf : List ℕ × Lexeme → List (List ℕ × Lexeme) → Type 0
+IsOneOf m [] = ⊥
+IsOneOf m (n ∷ ns) = (m ≡ n) ⊎ IsOneOf m ns
+
+-- each mark with which a text begins is at most as long as the one that is taken
+abbrev pub LongestMarkIsTaken : Type 0
+LongestMarkIsTaken = (m : List ℕ × Lexeme) (text : List ℕ) → IsOneOf m marks → begins_with m.0 text ≡ true → length m.0 ≤ (mark text).len
