@@ -2,13 +2,13 @@
 use Rattle.std.proofs.Common.{◌≡◌, ◌≢◌, ℕ, ◌⊎◌, inl, inr, List, [], refl, ap, sym, subst, ◌∙◌, append-nil}
 use Rattle.std.specs.Prelude.{Option, Some, None, Ok}
 use Rattle.std.specs.Io.KnownBytes.{append_known}
-use Rattle.map_replay.specs.State.{State}
-use Rattle.map_replay.specs.Replay.{replayed, output}
-use Rattle.map_replay.specs.Headline.{KeepsProvability}
-use Rattle.map_replay.specs.declared.refusal.Refusal.{Refusal}
+use Rattle.map_model.specs.State.{State}
+use Rattle.replay_model.specs.Replay.{replayed, output}
+use Rattle.replay_model.specs.Headline.{KeepsProvability}
+use Rattle.map_model.specs.declared.refusal.Refusal.{Refusal}
 use Rattle.map_main.specs.declared.status.Status.{Status}
 use Rattle.map_main.specs.declared.status.Status.TheVariants as status
-use Rattle.map_main.specs.Outside.{Files, Rose, TakesPrefix}
+use Rattle.map_base.specs.Outside.{Files, Rose, TakesPrefix}
 use Rattle.map_main.specs.Command.{command_of}
 use Rattle.map_main.specs.Lines.{usage_line, bad_program_line, bad_script_line, refused_line}
 use Rattle.map_main.specs.Causes.{IsAccepted, IsRefused, HasBadProgram, HasBadScript, IsAwaited, LeadsTo, WritesBeginning}

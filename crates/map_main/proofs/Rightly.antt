@@ -2,12 +2,12 @@
 use Rattle.std.proofs.Common.{◌≡◌, ℕ, ◌<◌, ◌≤◌, inl, inr, List, length, refl, ap, ◌∙◌, sym}
 use Rattle.std.proofs.lemmas.Bool.{lt-ltb, le-ltb}
 use Rattle.std.specs.Prelude.{Some, Result, Ok, Err, nat_lt, if◌then◌else◌}
-use Rattle.map_replay.specs.declared.replay_fault.ReplayFault.{ReplayFault}
-use Rattle.map_replay.specs.State.{State}
-use Rattle.map_replay.specs.Replay.{opened, scripted, then_scripted, output}
+use Rattle.replay_model.specs.declared.replay_fault.ReplayFault.{ReplayFault}
+use Rattle.map_model.specs.State.{State}
+use Rattle.replay_model.specs.Replay.{opened, scripted, then_scripted, output}
 use Rattle.map_main.specs.declared.status.Status.{Status}
 use Rattle.map_main.specs.declared.status.Status.TheVariants as status
-use Rattle.map_main.specs.Outside.{Files, file_of}
+use Rattle.map_base.specs.Outside.{Files, file_of}
 use Rattle.map_main.specs.Command.{Command, command_of}
 use Rattle.map_main.specs.Lines.{bad_program_line, bad_script_line}
 use Rattle.map_main.specs.Causes.{max_program, max_script, Gives, Opens, IsAccepted, IsBadProgram, IsBadScript, LeadsTo}

@@ -1,12 +1,12 @@
 -- The right answer where the shelf tells its files.
 use Rattle.std.specs.Prelude.{ℕ, List, length, nat_lt, if◌then◌else◌, Option, Some, None, Result, Ok, Err}
-use Rattle.map_replay.specs.declared.replay_fault.ReplayFault.{ReplayFault}
-use Rattle.map_replay.specs.declared.replay_fault.ReplayFault.TheVariants as fault
-use Rattle.map_replay.specs.State.{State}
-use Rattle.map_replay.specs.Replay.{opened, scripted, output}
+use Rattle.replay_model.specs.declared.replay_fault.ReplayFault.{ReplayFault}
+use Rattle.replay_model.specs.declared.replay_fault.ReplayFault.TheVariants as fault
+use Rattle.map_model.specs.State.{State}
+use Rattle.replay_model.specs.Replay.{opened, scripted, output}
 use Rattle.map_main.specs.declared.status.Status.{Status}
 use Rattle.map_main.specs.declared.status.Status.TheVariants as status
-use Rattle.map_main.specs.Outside.{Files, file_of}
+use Rattle.map_base.specs.Outside.{Files, file_of}
 use Rattle.map_main.specs.Command.{Command, command_of}
 use Rattle.map_main.specs.Lines.{usage_line, bad_program_line, bad_script_line, refused_line}
 use Rattle.map_main.specs.Causes.{max_program, max_script}

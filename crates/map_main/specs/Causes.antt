@@ -1,13 +1,13 @@
 -- When each answer comes, as far as the shelf tells its files, and the text that comes with it.
 use Rattle.std.specs.Prelude.{◌≡◌, ℕ, ◌≤◌, ◌⊎◌, List, length, Option, Some, None, Ok, Err}
-use Rattle.map_replay.specs.declared.refusal.Refusal.{Refusal}
-use Rattle.map_replay.specs.declared.replay_fault.ReplayFault.{ReplayFault}
-use Rattle.map_replay.specs.declared.replay_fault.ReplayFault.TheVariants as fault
-use Rattle.map_replay.specs.State.{State}
-use Rattle.map_replay.specs.Replay.{opened, scripted, replayed, output}
+use Rattle.map_model.specs.declared.refusal.Refusal.{Refusal}
+use Rattle.replay_model.specs.declared.replay_fault.ReplayFault.{ReplayFault}
+use Rattle.replay_model.specs.declared.replay_fault.ReplayFault.TheVariants as fault
+use Rattle.map_model.specs.State.{State}
+use Rattle.replay_model.specs.Replay.{opened, scripted, replayed, output}
 use Rattle.map_main.specs.declared.status.Status.{Status}
 use Rattle.map_main.specs.declared.status.Status.TheVariants as status
-use Rattle.map_main.specs.Outside.{Files, Tells, TellsLonger, TakesPrefix}
+use Rattle.map_base.specs.Outside.{Files, Tells, TellsLonger, TakesPrefix}
 use Rattle.map_main.specs.Command.{Command, command_of}
 use Rattle.map_main.specs.Lines.{usage_line, bad_program_line, bad_script_line, refused_line}
 

@@ -1,12 +1,12 @@
 -- How the parts of a call end, and what is known then.
 use Rattle.std.specs.Prelude.{◌≡◌, ℕ, List, Option, None}
 use Rattle.std.specs.Io.KnownBytes.{append_known}
-use Rattle.map_replay.specs.State.{State}
+use Rattle.map_model.specs.State.{State}
 use Rattle.map_main.specs.declared.status.Status.{Status}
 use Rattle.map_main.specs.declared.status.Status.TheVariants as status
 use Rattle.map_main.specs.declared.replaying.Stop.{Stop}
 use Rattle.map_main.specs.declared.replaying.Stop.TheVariants as stop
-use Rattle.map_main.specs.Outside.{Files, Rose, TakesPrefix}
+use Rattle.map_base.specs.Outside.{Files, Rose, TakesPrefix}
 use Rattle.map_main.specs.Command.{command_of}
 use Rattle.map_main.specs.Causes.{IsBadProgram, IsBadScript, Refuses, HasBadProgram, HasBadScript, IsRefused, IsAwaited, LeadsTo}
 

@@ -1,7 +1,7 @@
 -- The headline on files and output.
 use Rattle.std.specs.Prelude.{◌≡◌, ℕ, List, ◌++◌, Option, Some}
-use Rattle.map_replay.specs.Headline.{KeepsProvability}
-use Rattle.map_main.specs.Outside.{Files, file_of}
+use Rattle.replay_model.specs.Headline.{KeepsProvability}
+use Rattle.map_base.specs.Outside.{Files, file_of}
 use Rattle.map_main.specs.Command.{Command, command_of}
 
 -- The words name a program file and a script file that are there. The output is longer by bytes that read as a

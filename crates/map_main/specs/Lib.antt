@@ -1,5 +1,3 @@
-pub mod Outside
-pub mod Memory
 pub mod Status
 pub mod Command
 pub mod Lines

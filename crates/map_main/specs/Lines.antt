@@ -1,7 +1,7 @@
 -- The lines that are written where there is no program to write.
 use Rattle.std.specs.Prelude.{ℕ, List, ◌++◌, codes, decimal}
-use Rattle.map_replay.specs.declared.refusal.Refusal.{Refusal}
-use Rattle.map_replay.specs.Texts.{refusal_line}
+use Rattle.map_model.specs.declared.refusal.Refusal.{Refusal}
+use Rattle.map_base.specs.Refusals.{refusal_line}
 
 abbrev pub usage_line : List ℕ
 usage_line = codes "usage: map replay P S\n"

@@ -3,9 +3,9 @@
 ghost use Rattle.std.specs.Prelude.{◌≡◌, ◌≢◌, ◌<◌, ◌≤◌, ◌↔◌, false, [], None, Ok, Err, IfOk, IfErr, OnOk, OnErr, length, take, string_bytes, vec_len};
 ghost use Rattle.std.specs.IoError.{error_kind};
 ghost use Rattle.std.specs.Io.KnownBytes.{Appends, Consumes, IsAtEnd, Keeps};
-ghost use Rattle.map_main.specs.Outside.{IsAllOf, IsLongerThan, Rose, Tells, TellsLonger, raised, tells_end};
+ghost use Rattle.map_base.specs.Outside.{IsAllOf, IsLongerThan, Rose, Tells, TellsLonger, raised, tells_end};
 
-use super::outside::{Loading, Shelf, ShelfFault, Sink, SinkFault, Source, SourceFault};
+use map_base::{Loading, Shelf, ShelfFault, Sink, SinkFault, Source, SourceFault};
 use std::fs;
 use std::io::{self, ErrorKind, Read, Write};
 use std::rt::Files;

@@ -2,16 +2,12 @@
 //! What it writes is exactly the right text, each status has its cause, and the program that it writes
 //! keeps every ground atom's provability.
 //!
-//! A shelf, a source and a sink each say in their contracts what they hold, have left or have taken,
-//! and count their faults, so that an answer can be blamed on the outside only where it failed.
-//! Beside the traits stand their forms in memory, which fail at chosen calls, and the adapters
-//! over real files, standard input and standard output.
+//! The outside is `map_base`'s shelf, source and sink; here are the adapters over real files, standard input and
+//! standard output.
 #![tactic(auto)]
 
 pub mod adapters;
 mod command;
-pub mod memory;
-pub mod outside;
 mod replaying;
 mod run;
 pub mod status;
@@ -19,8 +15,7 @@ pub mod words;
 pub mod writing;
 
 pub use adapters::{FileShelf, InputSource, OutputSink};
-pub use memory::{MemShelf, MemSink, MemSource};
-pub use outside::{Loading, Shelf, ShelfFault, Sink, SinkFault, Source, SourceFault};
+pub use map_base::{Loading, MemShelf, MemSink, MemSource, Shelf, ShelfFault, Sink, SinkFault, Source, SourceFault};
 pub use run::map_run;
 pub use status::Status;
 pub use term_store::NoMemory;

@@ -1,12 +1,12 @@
 //! The files of a command, opened and carried out.
 
 ghost use Rattle.std.specs.Prelude.{◌≡◌, ◌≢◌, None, Ok, Err, IfOk, IfErr, IfSome, OnOk};
-ghost use Rattle.map_replay.specs.Seen.{state_of};
-ghost use Rattle.map_main.specs.Outside.{Rose, TellsLonger};
+ghost use Rattle.map_state.specs.Seen.{state_of};
+ghost use Rattle.map_base.specs.Outside.{Rose, TellsLonger};
 ghost use Rattle.map_main.specs.Causes.{Gives, Opens, Runs, IsAccepted};
 ghost use Rattle.map_main.specs.Endings.{NotOpened, NotCarriedOut, Stops};
 
-use super::outside::{Loading, Shelf, ShelfFault};
+use map_base::{Loading, Shelf, ShelfFault};
 use super::words::Words;
 use map_replay::{Refusal, ReplayFault, State, open_program, run_script};
 use std::alloc::Global;

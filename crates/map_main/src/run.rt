@@ -2,10 +2,10 @@
 
 ghost use Rattle.std.specs.Prelude.{◌≡◌, ◌≢◌, ◌⊎◌, ℕ, List, false, None, Some, IfOk, string_bytes};
 ghost use Rattle.std.specs.Io.KnownBytes.{append_known};
-ghost use Rattle.map_replay.specs.State.{State as RunState};
-ghost use Rattle.map_replay.specs.Replay.{output};
-ghost use Rattle.map_replay.specs.Seen.{state_of};
-ghost use Rattle.map_main.specs.Outside.{Files, Rose};
+ghost use Rattle.map_model.specs.State.{State as RunState};
+ghost use Rattle.replay_model.specs.Replay.{output};
+ghost use Rattle.map_state.specs.Seen.{state_of};
+ghost use Rattle.map_base.specs.Outside.{Files, Rose};
 ghost use Rattle.map_main.specs.Command.{command_of};
 ghost use Rattle.map_main.specs.Lines.{usage_line, bad_program_line, bad_script_line, refused_line};
 ghost use Rattle.map_main.specs.Causes.{IsAccepted, IsRefused, HasBadProgram, HasBadScript, IsAwaited, WritesBeginning};
@@ -14,7 +14,7 @@ ghost use Rattle.map_main.specs.Headline.{KeepsProvabilityOnFiles};
 ghost use Rattle.map_main.specs.Answers.Answer.{Writes};
 ghost use Rattle.map_main.specs.Endings.{IsWritten, Ends};
 
-use super::outside::{Shelf, Sink, SinkFault, Source};
+use map_base::{Shelf, Sink, SinkFault, Source};
 use super::replaying::{Stop, replay_files};
 use super::status::Status;
 use super::words::Words;

@@ -2,9 +2,9 @@
 
 ghost use Rattle.std.specs.Prelude.{◌≡◌, ◌≢◌, ◌≤◌, Err, OnOk, OnErr};
 ghost use Rattle.std.specs.Io.KnownBytes.{append_known};
-ghost use Rattle.map_main.specs.Outside.{Rose, TakesPrefix};
+ghost use Rattle.map_base.specs.Outside.{Rose, TakesPrefix};
 
-use super::outside::{Sink, SinkFault};
+use map_base::{Sink, SinkFault};
 
 /// Writes all the bytes. After an error the sink has taken a beginning of them.
 pub fn put<O: Sink>(out: &mut O, bytes: &[u8]) -> Result<(), SinkFault>

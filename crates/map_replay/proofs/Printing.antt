@@ -3,24 +3,28 @@ use Rattle.std.proofs.Common.{◌≡◌, ℕ, zero, suc, ◌+◌, ◌-◌, ◌<�
 use Rattle.std.specs.Prelude.{Option, Some, None, slice_index_or, nat_lt, if◌then◌else◌}
 use Rattle.std.proofs.lemmas.Bool.{lt-ltb}
 use Rattle.clp_model.specs.Clauses.{Clause}
-use Rattle.clp_syntax.specs.Print.{clause_text, program_text}
-use Rattle.map_replay.specs.State.{Entry, clauses_where, is_live, entry_of}
-use Rattle.map_replay.specs.Replay.{entry_text}
+use Rattle.print_model.specs.Clauses.{clause_text, program_text}
+use Rattle.map_model.specs.State.{Entry, entries_where, clauses_of, is_live, entry_of}
+use Rattle.replay_model.specs.Replay.{entry_text}
+
+-- the clauses of the live ones of these entries
+abbrev live_in : List (Option Entry) → List Clause
+live_in entries = clauses_of (entries_where is_live entries)
 
 -- the text of the entries from this place on
 abbrev pub text_from : List (Option Entry) → ℕ → List ℕ
-text_from entries place = program_text (clauses_where is_live (drop place entries))
+text_from entries place = program_text (live_in (drop place entries))
 
-first_text : (b : Bool) (c : Clause) (cs : List Clause) → program_text (if b then c ∷ cs else cs) ≡ (if b then clause_text c else []) ++ program_text cs
+first_text : (b : Bool) (e : Entry) (es : List Entry) → program_text (clauses_of (if b then e ∷ es else es)) ≡ (if b then clause_text e.clause else []) ++ program_text (clauses_of es)
 unfolding program_text
-first_text true c cs = refl
-first_text false c cs = refl
+first_text true e es = refl
+first_text false e es = refl
 
 pub text_next : (entries : List (Option Entry)) (place : ℕ) → place < length entries
     → text_from entries place ≡ entry_text (slice_index_or entries place None) ++ text_from entries (place + 1)
 text_next [] place h = absurd (omega arith)
 text_next (None ∷ entries) zero h = refl
-text_next (Some e ∷ entries) zero h = first_text e.live e.clause (clauses_where is_live entries)
+text_next (Some e ∷ entries) zero h = first_text e.live e (entries_where is_live entries)
 text_next (None ∷ entries) (suc place) h =
     let k : suc place + 1 ≡ suc (place + 1) = omega arith in rw k (text_next entries place (omega arith))
 text_next (Some e ∷ entries) (suc place) h =

@@ -1,10 +1,10 @@
 -- Steps that are carried out one after another.
 use Rattle.std.proofs.Common.{◌≡◌, ℕ, zero, suc, ◌+◌, ◌<◌, ◌≤◌, List, [], ◌∷◌, ◌++◌, length, get_or, take, drop, refl, sym, ◌∙◌, ap, arith}
 use Rattle.std.specs.Prelude.{Result, Ok, Err}
-use Rattle.map_replay.specs.declared.step.Step.{Step}
-use Rattle.map_replay.specs.declared.refusal.Refusal.{Refusal}
-use Rattle.map_replay.specs.State.{State}
-use Rattle.map_replay.specs.After.{after, run, run_from, go_on}
+use Rattle.map_model.specs.declared.step.Step.{Step}
+use Rattle.map_model.specs.declared.refusal.Refusal.{Refusal}
+use Rattle.map_model.specs.State.{State}
+use Rattle.map_model.specs.After.{after, run, run_from, go_on}
 
 -- what is left of a run: the steps from this one on
 pub run_next : (n : ℕ) (s t : State) (steps : List Step) (i : ℕ) (step : Step) → i < length steps → step ≡ get_or steps i step → after s step ≡ Ok t

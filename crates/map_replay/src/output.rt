@@ -1,12 +1,12 @@
 //! The program of a state, printed.
 
 ghost use Rattle.std.specs.Prelude.{◌≡◌, ◌++◌, OnOk, OnErr, string_bytes};
-ghost use Rattle.map_replay.specs.Seen.{state_of};
-ghost use Rattle.map_replay.specs.Replay.{output, entry_text};
-ghost use Rattle.map_replay.specs.State.{entry_at};
+ghost use Rattle.map_model.specs.State.{entry_at};
+ghost use Rattle.map_state.specs.Seen.{state_of};
+ghost use Rattle.replay_model.specs.Replay.{output, entry_text};
 
-use crate::state::State;
-use clp_syntax::print_clause;
+use clause_printer::print_clause;
+use map_state::State;
 use std::alloc::Global;
 use term_store::NoMemory;
 

@@ -1,22 +1,22 @@
 //! Programs and scripts from their texts.
 
 ghost use Rattle.std.specs.Prelude.{◌≡◌, ◌⊎◌, ℕ, ◌+◌, ◌-◌, ◌<◌, ◌≤◌, ◌^◌, length, take, vec_len, Ok, Err, OnOk, IfOk, IfErr};
-ghost use Rattle.clp_syntax.specs.Loaded.{program_of, AreStored};
-ghost use Rattle.clp_syntax.specs.Load.{sizes_of};
-ghost use Rattle.map_replay.specs.State.{State as S, start_state, present};
-ghost use Rattle.map_replay.specs.After.{run};
-ghost use Rattle.clp_syntax.specs.Loaded.{clauses_in};
-ghost use Rattle.map_replay.specs.Seen.{state_of};
-ghost use Rattle.map_replay.specs.Replay.{opened, scripted, replayed, output, StopsAt, StopsWithin};
-ghost use Rattle.map_replay.specs.Headline.{KeepsProvability};
+ghost use Rattle.clause_model.specs.Load.{sizes_of};
+ghost use Rattle.clause_loader.specs.Loaded.{program_of, clauses_in, AreStored};
+ghost use Rattle.map_model.specs.State.{start_state};
+ghost use Rattle.map_model.specs.After.{run};
+ghost use Rattle.map_state.specs.Seen.{state_of};
+ghost use Rattle.replay_model.specs.Replay.{opened, scripted, replayed, output, StopsAt, StopsWithin};
+ghost use Rattle.replay_model.specs.Headline.{KeepsProvability};
 
-use crate::refusal::Refusal;
-use crate::replay_fault::ReplayFault;
 use crate::run::apply;
-use crate::script::read_script;
-use crate::state::State;
-use crate::step::Step;
-use clp_syntax::{LoadFault, Loaded, TextError, load, read_program};
+use clause_loader::{LoadFault, Loaded, load};
+use clp_reader::{TextError, read_program};
+use clp_tokens::ReadError;
+use map_model::{Refusal, Step};
+use map_state::State;
+use replay_model::ReplayFault;
+use script_text::read_steps;
 use std::alloc::Global;
 use term_store::NoMemory;
 
@@ -24,7 +24,7 @@ use term_store::NoMemory;
 pub fn start(alloc: Global, loaded: Loaded) -> Result<State, NoMemory>
     requires stored { AreStored loaded.store loaded.clauses.items }
     requires places { vec_len loaded.clauses ≤ 4096 }
-    requires nodes { sizes_of (present (program_of loaded).clauses) ≤ 8388608 }
+    requires nodes { sizes_of (program_of loaded).clauses ≤ 8388608 }
     ensures { IfOk result (λ s. state_of s ≡ start_state (program_of loaded).clauses (program_of loaded).predicates) }
 {
     let Loaded {
@@ -52,10 +52,8 @@ pub fn open_program(alloc: Global, program: &[u8]) -> Result<State, ReplayFault>
     };
     let loaded = match load(alloc, source.as_slice()) {
         Ok(loaded) => loaded,
-        Err(LoadFault::TooLarge(limit)) => return Err(ReplayFault::Load(LoadFault::TooLarge(
-            limit,
-        ))),
         Err(LoadFault::NoMemory) => return Err(ReplayFault::NoMemory),
+        Err(fault) => return Err(ReplayFault::Load(fault)),
     };
     match start(alloc, loaded) {
         Ok(state) => Ok(state),
@@ -92,10 +90,10 @@ pub fn run_script(alloc: Global, state: &mut State, script: &[u8]) -> Result<(),
     ensures refuses { IfErr result (λ e. (e ≡ ReplayFault.NoMemory) ⊎ (scripted (state_of state.old) script.now ≡ Err e)) }
     ensures stops { IfErr result (StopsWithin (state_of state.old) script.now (state_of state.new)) }
 {
-    match read_script(alloc, script) {
+    match read_steps(alloc, script) {
         Ok(steps) => run_steps(state, steps.as_slice()),
-        Err(TextError::Fault) => Err(ReplayFault::Script),
-        Err(TextError::NoMemory) => Err(ReplayFault::NoMemory),
+        Err(ReadError::Fault(_)) => Err(ReplayFault::Script),
+        Err(ReadError::NoMemory) => Err(ReplayFault::NoMemory),
     }
 }
 

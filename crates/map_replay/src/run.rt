@@ -1,13 +1,12 @@
 ghost use Rattle.std.specs.Prelude.{◌≡◌, ◌⊎◌, ◌++◌, ◌∷◌, [], Ok, Err, OnOk, OnErr, IfOk, IfErr};
-ghost use Rattle.map_replay.specs.declared.refusal.Refusal.TheVariants.{NoMemory};
-ghost use Rattle.map_replay.specs.After.{after};
-ghost use Rattle.map_replay.specs.Seen.{state_of};
+ghost use Rattle.map_model.specs.declared.refusal.Refusal.TheVariants.{NoMemory};
+ghost use Rattle.map_model.specs.After.{after};
+ghost use Rattle.map_state.specs.Seen.{state_of};
 
-use crate::merging::merge;
-use crate::refusal::Refusal;
-use crate::state::State;
-use crate::step::Step;
-use clp_model::Limit;
+use clause_store::Limit;
+use map_model::{Refusal, Step};
+use map_state::State;
+use rules_drop::merge;
 
 const MAX_STEPS: u32 = 100_000;
 
@@ -22,7 +21,8 @@ pub fn apply(state: &mut State, step: &Step) -> Result<Step, Refusal>
     if state.steps() >= MAX_STEPS {
         return Err(Refusal::TooLarge(Limit::Steps));
     }
-    match *step {
-        Step::Merge { id, first, second } => merge(state, id, first, second),
+    match step {
+        Step::Unfold { id: _, at: _ } => Err(Refusal::NoMemory),
+        Step::Merge { id, first, second } => merge(state, *id, *first, *second),
     }
 }

@@ -1,4 +1,4 @@
-use Rattle.map_replay.proofs.Headline.{keeps_provability}
+use Rattle.replay_laws.proofs.Headline.{keeps_provability}
 use Rattle.map_main.proofs.Clauses.{ok, refused, usage, bad_program, bad_script, shelf_fault, sink_fault, out_of_memory, never, shelf_quiet, sink_quiet, answered, no_command, right_or_no_memory, keeps_provability_on_files}
 use Rattle.map_main.proofs.run.map_run.Goals as goal
 

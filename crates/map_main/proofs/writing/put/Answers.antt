@@ -1,5 +1,5 @@
 use Rattle.std.proofs.Common.{rules, ◌∙◌}
-use Rattle.map_main.proofs.Taking.{took_piece, took_some, within_piece}
+use Rattle.map_base.proofs.Taking.{took_piece, took_some, within_piece}
 use Rattle.map_main.proofs.writing.put.Goals as goal
 
 pub returns-in-Err-clause-some : goal.returns-in-Err-clause-some

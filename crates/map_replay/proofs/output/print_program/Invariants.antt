@@ -1,7 +1,7 @@
 use Rattle.std.proofs.Common.{◌≡◌, ◌++◌, ◌-◌}
 use Rattle.std.specs.Prelude.{string_bytes}
-use Rattle.map_replay.specs.Seen.{state_of}
-use Rattle.map_replay.specs.Replay.{output}
+use Rattle.map_state.specs.Seen.{state_of}
+use Rattle.replay_model.specs.Replay.{output}
 use Rattle.map_replay.proofs.Printing.{text_from}
 use Rattle.map_replay.proofs.output.print_program.Given as goal
 

@@ -1,6 +1,6 @@
 use Rattle.std.proofs.Common.{ap, ◌∙◌}
-use Rattle.map_replay.specs.Replay.{then_scripted}
-use Rattle.map_replay.proofs.Headline.{keeps_provability}
+use Rattle.replay_model.specs.Replay.{then_scripted}
+use Rattle.replay_laws.proofs.Headline.{keeps_provability}
 use Rattle.map_replay.proofs.replaying.replay.Goals as goal
 
 pub returns-clause-headline : goal.returns-clause-headline

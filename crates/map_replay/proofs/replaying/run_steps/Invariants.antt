@@ -1,4 +1,4 @@
-use Rattle.map_replay.specs.Seen.{state_of}
+use Rattle.map_state.specs.Seen.{state_of}
 use Rattle.map_replay.proofs.Running.{IsSoFar}
 use Rattle.map_replay.proofs.replaying.run_steps.Given as goal
 
