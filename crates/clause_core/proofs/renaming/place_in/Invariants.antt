@@ -1,9 +1,0 @@
-use Rattle.std.proofs.Common.{◌≡◌, ◌+◌, drop}
-use Rattle.clp_model.specs.Canonical.{place_in}
-use Rattle.clause_core.proofs.renaming.place_in.Given as goal
-
-abbrev pub invariant-loop-m : goal.invariant-loop-m
-invariant-loop-m l = record {
-  is : l.place ≡ l.m-index + 1;
-  rest : place_in l.met l.number ≡ l.m-index + place_in (drop l.m-index l.met) l.number;
-}

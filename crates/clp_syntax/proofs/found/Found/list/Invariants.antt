@@ -1,6 +1,0 @@
-use Rattle.std.proofs.Common.{◌≡◌, take}
-use Rattle.clp_syntax.specs.Found.{predicates_at}
-use Rattle.clp_syntax.proofs.found.Found.list.Given as goal
-
-abbrev pub invariant-loop-key : goal.invariant-loop-key
-invariant-loop-key l = l.preds ≡ predicates_at (take l.key-index l.key-items)
