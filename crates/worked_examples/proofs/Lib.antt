@@ -4,4 +4,5 @@ pub mod Meaning
 pub mod RowInstances
 pub mod Trees
 pub mod Merges
+pub mod Unfoldings
 pub mod Printed

@@ -1,20 +1,22 @@
 -- Canonical forms and merges: they compute, once the trees are seen by their arguments.
 use Rattle.std.proofs.Common.{◌≡◌, true, false, [], ◌∷◌, refl, ◌∙◌}
-use Rattle.std.specs.Prelude.{None}
+use Rattle.std.specs.Prelude.{None, Ok}
 use Rattle.clp_model.specs.declared.tree.Tree.{Var, App}
-use Rattle.clp_model.specs.Canonical.{canonical_form, clause_size, clause_depth, variables_met, limit_past}
+use Rattle.clp_model.specs.Canonical.{clause_size, clause_depth}
 use Rattle.clp_model.specs.Predicates.{initial_predicates}
 use Rattle.clp_model.proofs.Trees.{size_app, size_var, depth_app, depth_var, variables_app, variables_var, mapped_app, mapped_var, name_of_app, arguments_of_app}
-use Rattle.clp_syntax.specs.Print.{program_text, clause_text, body_text, atoms_text}
-use Rattle.clp_syntax.proofs.Texts.{text_app}
-use Rattle.map_replay.specs.SameTree.{same_tree}
+use Rattle.clause_model.specs.Variables.{variables_by_first_occurrence}
+use Rattle.clause_model.specs.Canonical.{canonical_form, with_clean_rows, limit_past, new_clause}
+use Rattle.print_model.specs.Names.{predicate_text}
+use Rattle.print_model.specs.Clauses.{program_text, clause_text}
+use Rattle.print_model.proofs.Applications.{atom_app}
+use Rattle.map_model.specs.SameTree.{same_tree}
 use Rattle.worked_examples.specs.Samples.{p, q}
 use Rattle.worked_examples.specs.Merges.{scattered, repeated, single, CanonicalNumbers, SizeAndDepth, MergeGives, LiveAfterMerge, PrintedAfterMerge, MergeOfNoClause, MergeOfNoAtom, MergeOfOneAtom, MergeOfUnequalAtoms}
 use Rattle.worked_examples.proofs.Trees.{same_app, same_var}
 
 -- ---- canonical forms
-met : variables_met (scattered.head ∷ scattered.body) ≡ 5 ∷ 2 ∷ 7 ∷ []
-unfolding variables_met
+met : variables_by_first_occurrence (with_clean_rows scattered) ≡ 5 ∷ 2 ∷ 7 ∷ []
 met = simp (variables_app, variables_var) refl
 
 pub canonical_numbers : CanonicalNumbers
@@ -41,30 +43,33 @@ depth_single : clause_depth single ≡ 1
 unfolding clause_depth
 depth_single = simp depth_app refl
 
-met_single : variables_met (single.head ∷ single.body) ≡ []
-unfolding variables_met
+met_single : variables_by_first_occurrence (with_clean_rows single) ≡ []
 met_single = simp variables_app refl
-
-limit_single : limit_past single ≡ None
-unfolding limit_past
-limit_single = rw (size_single, depth_single, met_single) refl
 
 canonical_single : canonical_form single ≡ single
 unfolding canonical_form
 canonical_single = rw met_single (simp mapped_app refl)
 
+limit_single : limit_past single ≡ None
+unfolding limit_past
+limit_single = rw (size_single, depth_single) refl
+
+new_single : new_clause single ≡ Ok single
+unfolding new_clause
+new_single = rw (canonical_single, limit_single) refl
+
 predicates_repeated : initial_predicates (repeated ∷ []) ≡ record { name = p; arity = 0 } ∷ record { name = q; arity = 0 } ∷ []
 predicates_repeated = simp (name_of_app, arguments_of_app) refl
 
 pub merge_gives : MergeGives
-merge_gives = rw (same_q, size_repeated, limit_single, canonical_single, size_single, predicates_repeated) refl
+merge_gives = rw (same_q, size_repeated, new_single, size_single, predicates_repeated) refl
 
 pub live_after_merge : LiveAfterMerge
 live_after_merge = (refl, refl)
 
 pub printed_after_merge : PrintedAfterMerge
-unfolding program_text clause_text body_text atoms_text
-printed_after_merge = simp text_app refl
+unfolding program_text clause_text predicate_text
+printed_after_merge = simp atom_app
 
 -- ---- refused merges
 pub merge_of_no_clause : MergeOfNoClause

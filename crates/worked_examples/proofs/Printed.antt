@@ -4,18 +4,19 @@ use Rattle.std.specs.Fmt.{digits}
 use Rattle.clp_model.specs.declared.predicate.Pred.{Pred}
 use Rattle.clp_model.specs.Predicates.{program_predicates, distinct_after, same_predicate}
 use Rattle.clp_model.proofs.Trees.{name_of_app, arguments_of_app}
-use Rattle.clp_syntax.specs.Print.{clause_text, body_text, atoms_text}
-use Rattle.clp_syntax.proofs.Texts.{text_app, text_var}
+use Rattle.print_model.specs.Names.{predicate_text}
+use Rattle.print_model.specs.Clauses.{clause_text}
+use Rattle.print_model.proofs.Applications.{texts_app, texts_var, atom_app}
 use Rattle.worked_examples.specs.Samples.{p, q, one_goal, fact}
 use Rattle.worked_examples.specs.Printed.{two_q, PrintedClause, PrintedLongerClause, PredicatesOnce, NoDefinitions}
 
 pub printed_clause : PrintedClause
-unfolding clause_text body_text atoms_text digits
-printed_clause = simp (text_app, text_var) refl
+unfolding clause_text predicate_text digits
+printed_clause = simp (atom_app, texts_var)
 
 pub printed_longer_clause : PrintedLongerClause
-unfolding clause_text body_text atoms_text digits
-printed_longer_clause = simp (text_app, text_var) refl
+unfolding clause_text predicate_text digits
+printed_longer_clause = simp (atom_app, texts_app, texts_var)
 
 -- a predicate
 abbrev pred : List ℕ → ℕ → Pred

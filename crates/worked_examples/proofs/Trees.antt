@@ -4,7 +4,7 @@ use Rattle.std.specs.Prelude.{nat_eq}
 use Rattle.std.specs.Str.{bytes_eq}
 use Rattle.clp_model.specs.declared.tree.Tree.{Tree, Var, App, Row_of-Tree, end_of-Tree, more_of-Tree, items-the_row-Tree}
 use Rattle.clp_model.specs.declared.tree.Tree.TheBlock.{items_hidden-the_row-Tree-0, hidden-the_row-Tree-0}
-use Rattle.map_replay.specs.SameTree.{same_tree, same_trees}
+use Rattle.map_model.specs.SameTree.{same_tree, same_trees}
 
 abbrev pub same_all : List (Tree ℕ) → List (Tree ℕ) → Bool
 same_all [] [] = true

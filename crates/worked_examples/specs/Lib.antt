@@ -3,3 +3,4 @@ pub mod Numbers
 pub mod Instances
 pub mod Merges
 pub mod Printed
+pub mod Unfoldings

@@ -3,14 +3,14 @@ use Rattle.std.specs.Prelude.{◌≡◌, ◌+◌, true, false, [], ◌∷◌, �
 use Rattle.clp_model.specs.declared.sort.Sort.TheVariants.{Any}
 use Rattle.clp_model.specs.declared.tree.Tree.{Var, App}
 use Rattle.clp_model.specs.Clauses.{Clause}
-use Rattle.clp_model.specs.Canonical.{canonical_form, clause_size, clause_depth}
-use Rattle.clp_model.specs.Predicates.{initial_predicates}
-use Rattle.map_replay.specs.declared.step.Step.TheVariants.{Merge}
-use Rattle.map_replay.specs.declared.refusal.Refusal.TheVariants.{NoClause, NoAtom, RepeatedPosition, NotEqualAtoms}
-use Rattle.map_replay.specs.State.{State, start_state, live_clauses, live_ids_of}
-use Rattle.map_replay.specs.After.{after}
-use Rattle.map_replay.specs.Replay.{output}
-use Rattle.worked_examples.specs.Samples.{p, q, rule}
+use Rattle.clp_model.specs.Canonical.{clause_size, clause_depth}
+use Rattle.clause_model.specs.Canonical.{canonical_form}
+use Rattle.map_model.specs.declared.step.Step.TheVariants.{Merge}
+use Rattle.map_model.specs.declared.refusal.Refusal.TheVariants.{NoClause, NoAtom, RepeatedPosition, NotEqualAtoms}
+use Rattle.map_model.specs.State.{State, live_clauses, live_ids_of}
+use Rattle.map_model.specs.After.{after}
+use Rattle.replay_model.specs.Replay.{output}
+use Rattle.worked_examples.specs.Samples.{p, q, rule, start}
 
 -- p(V5,V2) :- q(V2,V7).
 abbrev pub scattered : Clause
@@ -37,10 +37,6 @@ single = rule (App p []) (App q [] ∷ []) []
 abbrev pub unequal : Clause
 unequal = rule (App p (Var 1 ∷ Var 2 ∷ [])) (App q (Var 1 ∷ []) ∷ App q (Var 2 ∷ []) ∷ []) (Any ∷ Any ∷ [])
 
--- the start state of a program of one clause
-abbrev pub start : Clause → State
-start c = start_state (Some c ∷ []) (initial_predicates (c ∷ []))
-
 -- clause 1 is dead, clause 2 is p :- q, made from it, and both are counted
 abbrev pub merged_state : State
 merged_state =
@@ -57,7 +53,7 @@ merged_state =
 
 -- `merge 1 at 1,2.` on p :- q, q
 abbrev pub MergeGives : Type 0
-MergeGives = after (start repeated) (Merge 1 1 2) ≡ Ok merged_state
+MergeGives = after (start (repeated ∷ [])) (Merge 1 1 2) ≡ Ok merged_state
 
 -- then p :- q is the program, and its id is 2
 abbrev pub LiveAfterMerge : Type 0
@@ -69,16 +65,16 @@ PrintedAfterMerge = output merged_state ≡ codes "p :- q." ++ 10 ∷ []
 
 -- `merge 2 at 1,2.` names no clause, and clause 1 none after the merge
 abbrev pub MergeOfNoClause : Type 0
-MergeOfNoClause = (after (start repeated) (Merge 2 1 2) ≡ Err (NoClause 2)) × (after merged_state (Merge 1 1 2) ≡ Err (NoClause 1))
+MergeOfNoClause = (after (start (repeated ∷ [])) (Merge 2 1 2) ≡ Err (NoClause 2)) × (after merged_state (Merge 1 1 2) ≡ Err (NoClause 1))
 
 -- `merge 1 at 3,2.` and `merge 1 at 1,0.` name no atom
 abbrev pub MergeOfNoAtom : Type 0
-MergeOfNoAtom = (after (start repeated) (Merge 1 3 2) ≡ Err (NoAtom 3)) × (after (start repeated) (Merge 1 1 0) ≡ Err (NoAtom 0))
+MergeOfNoAtom = (after (start (repeated ∷ [])) (Merge 1 3 2) ≡ Err (NoAtom 3)) × (after (start (repeated ∷ [])) (Merge 1 1 0) ≡ Err (NoAtom 0))
 
 -- `merge 1 at 1,1.` names one atom twice
 abbrev pub MergeOfOneAtom : Type 0
-MergeOfOneAtom = after (start repeated) (Merge 1 1 1) ≡ Err (RepeatedPosition 1)
+MergeOfOneAtom = after (start (repeated ∷ [])) (Merge 1 1 1) ≡ Err (RepeatedPosition 1)
 
 -- q(V1) and q(V2) are not equal
 abbrev pub MergeOfUnequalAtoms : Type 0
-MergeOfUnequalAtoms = after (start unequal) (Merge 1 1 2) ≡ Err (NotEqualAtoms 1 2)
+MergeOfUnequalAtoms = after (start (unequal ∷ [])) (Merge 1 1 2) ≡ Err (NotEqualAtoms 1 2)

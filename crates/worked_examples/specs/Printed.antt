@@ -4,9 +4,9 @@ use Rattle.clp_model.specs.declared.sort.Sort.TheVariants.{Any}
 use Rattle.clp_model.specs.declared.tree.Tree.{Var, App}
 use Rattle.clp_model.specs.Clauses.{Clause}
 use Rattle.clp_model.specs.Predicates.{initial_predicates}
-use Rattle.clp_syntax.specs.Print.{clause_text}
-use Rattle.map_replay.specs.declared.step.Step.TheVariants.{Merge}
-use Rattle.map_replay.specs.Headline.{definitions_of}
+use Rattle.print_model.specs.Clauses.{clause_text}
+use Rattle.map_model.specs.declared.step.Step.TheVariants.{Unfold, Merge}
+use Rattle.replay_model.specs.Headline.{definitions_of}
 use Rattle.worked_examples.specs.Samples.{f, p, q, a, rule, one_goal, fact}
 
 -- the text of p(V1) :- q(V1), with a line feed at the end
@@ -31,6 +31,6 @@ PredicatesOnce =
     initial_predicates (one_goal ∷ fact ∷ two_q ∷ [])
     ≡ record { name = p; arity = 1 } ∷ record { name = q; arity = 1 } ∷ record { name = q; arity = 0 } ∷ []
 
--- a script of merges adds no definition
+-- unfolding and merging add no definition
 abbrev pub NoDefinitions : Type 0
-NoDefinitions = definitions_of (Merge 1 1 2 ∷ Merge 2 1 3 ∷ []) ≡ []
+NoDefinitions = definitions_of (Merge 1 1 2 ∷ Merge 2 1 3 ∷ Unfold 3 1 ∷ []) ≡ []

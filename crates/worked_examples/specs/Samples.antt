@@ -1,10 +1,12 @@
 -- Names, values and clauses of the examples.
-use Rattle.std.specs.Prelude.{ℕ, List, [], ◌∷◌, codes}
+use Rattle.std.specs.Prelude.{ℕ, List, [], ◌∷◌, map, codes, Some}
 use Rattle.clp_model.specs.declared.sort.Sort.{Sort}
 use Rattle.clp_model.specs.declared.sort.Sort.TheVariants.{Any}
 use Rattle.clp_model.specs.declared.tree.Tree.{Tree, Var, App}
 use Rattle.clp_model.specs.Values.{Value, Named, NoValue, AndValue, GroundAtom}
 use Rattle.clp_model.specs.Clauses.{Clause}
+use Rattle.clp_model.specs.Predicates.{initial_predicates}
+use Rattle.map_model.specs.State.{State, start_state}
 
 -- ---- names
 abbrev pub f : List ℕ
@@ -15,6 +17,9 @@ p = codes "p"
 
 abbrev pub q : List ℕ
 q = codes "q"
+
+abbrev pub r : List ℕ
+r = codes "r"
 
 abbrev pub a : List ℕ
 a = codes "a"
@@ -47,3 +52,7 @@ fact = rule (App q (App a [] ∷ [])) [] []
 -- p(V1) :- q(V1).  q(a).
 abbrev pub two_clauses : List Clause
 two_clauses = one_goal ∷ fact ∷ []
+
+-- the start state of a program of clauses
+abbrev pub start : List Clause → State
+start cs = start_state (map Some cs) (initial_predicates cs)

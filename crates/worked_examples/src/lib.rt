@@ -1,11 +1,12 @@
 //! Worked examples of the definitions: lowest terms, rows and equations, instances and proofs,
-//! canonical forms, merges and their refusals, printed text. There is no code here: each example is
-//! the contract of an empty function, and its words stand above its statement in `specs/`.
+//! canonical forms, merges and their refusals, unfolding, printed text. There is no code here: each
+//! example is the contract of an empty function, and its words stand above its statement in `specs/`.
 #![tactic(auto)]
 
 ghost use Rattle.worked_examples.specs.Numbers.{SixQuarters, MinusSixQuarters, TwoQuarters, RowAtWholeNumbers, RowAtHalves, StrictRow, RowBelow};
 ghost use Rattle.worked_examples.specs.Instances.{EquationAtA, EquationAtB, InstanceAtA, NoInstance, ProofOfTwoNodes, NotProvable, NotProvableAbove, InstanceWithRow, NoInstanceWithRow};
 ghost use Rattle.worked_examples.specs.Merges.{CanonicalNumbers, SizeAndDepth, MergeGives, LiveAfterMerge, PrintedAfterMerge, MergeOfNoClause, MergeOfNoAtom, MergeOfOneAtom, MergeOfUnequalAtoms};
+ghost use Rattle.worked_examples.specs.Unfoldings.{UnfoldWithoutResolvent, LiveWithoutResolvent, PrintedWithoutResolvent, UnfoldWithItself, LiveAfterUnfold, PrintedAfterUnfold};
 ghost use Rattle.worked_examples.specs.Printed.{PrintedClause, PrintedLongerClause, PredicatesOnce, NoDefinitions};
 
 /// 6 over 4 is 3/2, -6 over 4 is -3/2, and 2 over 4 is the same value as 1 over 2.
@@ -72,13 +73,29 @@ pub fn refused_merges()
     ensures unequal_atoms { MergeOfUnequalAtoms }
 {}
 
+/// `unfold 1 at 1.` on `p :- q.` and `r.` takes clause 1 away, and nothing comes in its place, since no
+/// head is `q`; `r.` is written.
+pub fn unfolding_without_resolvent()
+    ensures gives { UnfoldWithoutResolvent }
+    ensures live { LiveWithoutResolvent }
+    ensures written { PrintedWithoutResolvent }
+{}
+
+/// `unfold 1 at 1.` on `p :- p.` and `p.` unfolds the clause with itself, too: then `p.`, `p :- p.` and
+/// `p.` with the ids 2, 3 and 4 are the program, and are written.
+pub fn unfolding_with_itself()
+    ensures gives { UnfoldWithItself }
+    ensures live { LiveAfterUnfold }
+    ensures written { PrintedAfterUnfold }
+{}
+
 /// The text of two clauses.
 pub fn printed_clauses()
     ensures one_atom { PrintedClause }
     ensures two_atoms { PrintedLongerClause }
 {}
 
-/// The predicates of a program are listed once each, and merges define none.
+/// The predicates of a program are listed once each, and unfolding and merging define none.
 pub fn predicates_and_definitions()
     ensures once { PredicatesOnce }
     ensures no_definitions { NoDefinitions }
