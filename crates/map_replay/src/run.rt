@@ -7,6 +7,7 @@ use clause_store::Limit;
 use map_model::{Refusal, Step};
 use map_state::State;
 use rules_drop::merge;
+use rules_unfold::unfold;
 
 const MAX_STEPS: u32 = 100_000;
 
@@ -22,7 +23,7 @@ pub fn apply(state: &mut State, step: &Step) -> Result<Step, Refusal>
         return Err(Refusal::TooLarge(Limit::Steps));
     }
     match step {
-        Step::Unfold { id: _, at: _ } => Err(Refusal::NoMemory),
+        Step::Unfold { id, at } => unfold(state, *id, *at),
         Step::Merge { id, first, second } => merge(state, *id, *first, *second),
     }
 }
