@@ -5,8 +5,6 @@
 #[cfg(test)]
 mod answers;
 #[cfg(test)]
-mod scripts;
-#[cfg(test)]
 mod states;
 #[cfg(test)]
 mod texts;

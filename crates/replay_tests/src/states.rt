@@ -1,11 +1,10 @@
 //! What a state tells at its start, after a step, after a refusal, and when a change is reserved.
 
 ghost use Rattle.std.specs.Prelude.{◌<◌, ◌≤◌, ◌^◌, length, vec_len, IfOk};
-ghost use Rattle.clp_syntax.specs.Loaded.{program_of, AreStored};
-ghost use Rattle.clp_syntax.specs.Load.{sizes_of};
-ghost use Rattle.map_replay.specs.State.{present};
-ghost use Rattle.map_replay.specs.Seen.{state_of};
-ghost use Rattle.map_replay.specs.Changes.{IsChange};
+ghost use Rattle.clause_model.specs.Load.{sizes_of};
+ghost use Rattle.clause_loader.specs.Loaded.{program_of, AreStored};
+ghost use Rattle.map_state.specs.Seen.{state_of};
+ghost use Rattle.map_state.specs.Changes.{IsChange};
 
 use clause_core::copy_clause;
 use clp_model::{Name, Pred};
@@ -99,7 +98,7 @@ fn loaded(alloc: Global, program: &[u8]) -> Result<Loaded, ReplayFault>
     requires { length program.now < 2 ^ 32 }
     ensures stored { IfOk result (λ l. AreStored l.store l.clauses.items) }
     ensures places { IfOk result (λ l. vec_len l.clauses ≤ 4096) }
-    ensures nodes { IfOk result (λ l. sizes_of (present (program_of l).clauses) ≤ 8388608) }
+    ensures nodes { IfOk result (λ l. sizes_of (program_of l).clauses ≤ 8388608) }
 {
     let source = match read_program(alloc, program) {
         Ok(source) => source,
