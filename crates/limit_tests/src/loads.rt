@@ -23,33 +23,39 @@ fn clause_text(alloc: Global, parts: [&str; 5], times: usize) -> Result<String, 
     )
 }
 
-/// The number of clauses, the parts of each, and the predicates or the limit that is past.
-type Case = (usize, [&'static str; 5], usize, Result<usize, Limit>);
+/// The number of clauses, the parts of each, and the predicates, or the first clause that is refused and the limit that is
+/// past.
+type Case = (usize, [&'static str; 5], usize, Result<usize, (u32, Limit)>);
 
 static CASES: [Case; 16] = [
     (3, ["p.", "", "", "", ""], 0, Ok(1)),
     // Body atoms.
     (1, ["p :- q", ", q", ".", "", ""], 63, Ok(2)),
-    (1, ["p :- q", ", q", ".", "", ""], 64, Err(Limit::Atoms)),
+    (
+        1,
+        ["p :- q", ", q", ".", "", ""],
+        64,
+        Err((1, Limit::Atoms)),
+    ),
     // Nodes of a clause, in the head alone and in all atoms.
     (1, ["p(a", ",a", ").", "", ""], 4094, Ok(1)),
-    (1, ["p(a", ",a", ").", "", ""], 4095, Err(Limit::Shape)),
+    (1, ["p(a", ",a", ").", "", ""], 4095, Err((1, Limit::Shape))),
     (1, ["p :- q, q(a", ",a", ").", "", ""], 4092, Ok(3)),
     (
         1,
         ["p :- q, q(a", ",a", ").", "", ""],
         4093,
-        Err(Limit::Shape),
+        Err((1, Limit::Shape)),
     ),
     // Depth.
     (1, ["p(", "f(", "X", ")", ")."], 254, Ok(1)),
-    (1, ["p(", "f(", "X", ")", ")."], 255, Err(Limit::Shape)),
+    (1, ["p(", "f(", "X", ")", ")."], 255, Err((1, Limit::Shape))),
     (1, ["p :- q(", "f(", "a", ")", "), q."], 254, Ok(3)),
     (
         1,
         ["p :- q(", "f(", "a", ")", "), q."],
         255,
-        Err(Limit::Shape),
+        Err((1, Limit::Shape)),
     ),
     // Variables.
     (1, ["p(X,_", ",_", ") :- q(X).", "", ""], 254, Ok(2)),
@@ -57,18 +63,23 @@ static CASES: [Case; 16] = [
         1,
         ["p(X,_", ",_", ") :- q(X).", "", ""],
         255,
-        Err(Limit::Variables),
+        Err((1, Limit::Variables)),
     ),
     // The shape comes before the atoms.
     (
         1,
         ["p :- q", ", q", "(_", ",_", ")."],
         2048,
-        Err(Limit::Shape),
+        Err((1, Limit::Shape)),
     ),
     // Nodes of all clauses.
     (2048, ["p(X", ",X", ").", "", ""], 4094, Ok(1)),
-    (2049, ["p(X", ",X", ").", "", ""], 4094, Err(Limit::Nodes)),
+    (
+        2049,
+        ["p(X", ",X", ").", "", ""],
+        4094,
+        Err((2049, Limit::Nodes)),
+    ),
 ];
 
 /// So many clauses.
@@ -78,7 +89,7 @@ fn clauses_text(alloc: Global, case: &Case) -> Result<String, AllocError> {
     clause.as_str().repeat(alloc, count)
 }
 
-/// Whether a text loads as so many clauses with so many predicates, or is past this limit.
+/// Whether a text loads as so many clauses with so many predicates, or is past this limit at this clause.
 fn loads_so(alloc: Global, text: &[u8], case: &Case) -> Result<bool, TextError>
     requires { length text.now < 2 ^ 32 }
 {
@@ -86,7 +97,8 @@ fn loads_so(alloc: Global, text: &[u8], case: &Case) -> Result<bool, TextError>
     let source = read_program(alloc, text)?;
     match load(alloc, source.as_slice()) {
         Ok(loaded) => Ok(loaded.clauses.len() == count && wanted == Ok(loaded.preds.len())),
-        Err(LoadFault::TooLarge(limit)) => Ok(wanted == Err(limit)),
+        Err(LoadFault::TooLarge(place, limit)) => Ok(wanted == Err((place, limit))),
+        Err(LoadFault::Overflow(_)) => Ok(false),
         Err(LoadFault::NoMemory) => Err(TextError::NoMemory),
     }
 }
