@@ -15,7 +15,9 @@ pub mod words;
 pub mod writing;
 
 pub use adapters::{FileShelf, InputSource, OutputSink};
-pub use map_base::{Loading, MemShelf, MemSink, MemSource, Shelf, ShelfFault, Sink, SinkFault, Source, SourceFault};
+pub use map_base::{
+    Loading, MemShelf, MemSink, MemSource, Shelf, ShelfFault, Sink, SinkFault, Source, SourceFault,
+};
 pub use run::map_run;
 pub use status::Status;
 pub use term_store::NoMemory;

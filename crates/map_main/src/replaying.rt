@@ -6,8 +6,8 @@ ghost use Rattle.map_base.specs.Outside.{Rose, TellsLonger};
 ghost use Rattle.map_main.specs.Causes.{Gives, Opens, Runs, IsAccepted};
 ghost use Rattle.map_main.specs.Endings.{NotOpened, NotCarriedOut, Stops};
 
-use map_base::{Loading, Shelf, ShelfFault};
 use super::words::Words;
+use map_base::{Loading, Shelf, ShelfFault};
 use map_replay::{Refusal, ReplayFault, State, open_program, run_script};
 use std::alloc::Global;
 

@@ -14,12 +14,12 @@ ghost use Rattle.map_main.specs.Headline.{KeepsProvabilityOnFiles};
 ghost use Rattle.map_main.specs.Answers.Answer.{Writes};
 ghost use Rattle.map_main.specs.Endings.{IsWritten, Ends};
 
-use map_base::{Shelf, Sink, SinkFault, Source};
 use super::replaying::{Stop, replay_files};
 use super::status::Status;
 use super::words::Words;
 use super::writing::put;
 use itoa::Buffer;
+use map_base::{Shelf, Sink, SinkFault, Source};
 use map_replay::{Refusal, State, print_program, refusal_text};
 use std::alloc::Global;
 use term_store::NoMemory;
