@@ -1,2 +1,4 @@
 pub mod Sums
 pub mod Reducing
+pub mod Opposites
+pub mod Reciprocals

@@ -34,6 +34,23 @@ and_false false = refl
 pub small : (n : ℤ) (e : ℕ) → unsigned_abs n ≤ limit → e ≤ limit → is_small (fraction n e) ≡ true
 small n e h k = let a = within_test (unsigned_abs n) h in let b = within_test e k in rw (a, b) refl
 
+den_test : (a : Bool) (n : ℕ) → (a && nat_le n limit) ≡ true → n ≤ limit
+den_test true n h = grind (arith, nat_tests)
+den_test false n h = cc
+
+pub den_small : (f : Fraction) → is_small f ≡ true → f.den ≤ limit
+den_small f h = den_test (nat_le (unsigned_abs f.num) limit) f.den h
+
+num_test : (n : ℕ) (b : Bool) → (nat_le n limit && b) ≡ true → n ≤ limit
+num_test n b h = by (nat_le n limit) refl h
+  where
+    by : (t : Bool) → nat_le n limit ≡ t → (t && b) ≡ true → n ≤ limit
+    by true e h = grind (arith, nat_tests)
+    by false e h = cc
+
+pub num_small : (f : Fraction) → is_small f ≡ true → unsigned_abs f.num ≤ limit
+num_small f h = num_test (unsigned_abs f.num) (nat_le f.den limit) h
+
 pub large_num : (n : ℤ) (e : ℕ) → limit < unsigned_abs n → is_small (fraction n e) ≡ false
 large_num n e h = let a = past_test (unsigned_abs n) h in rw a refl
 

@@ -1,5 +1,6 @@
-ghost use Rattle.std.specs.Prelude.{◌≡◌, ◌<◌, ◌≤◌, pos, neg_ℤ, true, unsigned_abs};
+ghost use Rattle.std.specs.Prelude.{◌≡◌, ◌<◌, ◌≤◌, pos, neg_ℤ, true, false, unsigned_abs};
 ghost use Rattle.clp_rationals.specs.Fraction.{Fraction, IsLowest};
+ghost use Rattle.linear_model.specs.Forms.{is_zero};
 ghost use Rattle.linear_model.specs.Normal.{limit};
 ghost use Rattle.frac_model.specs.Reduced as spec;
 ghost use Rattle.frac_model.specs.Results.{is_small, if_small, quotient_or_fault};
@@ -67,6 +68,17 @@ fn opposite(number: i64) -> i64
 }
 
 impl Frac {
+    /// The natural number.
+    pub fn natural(n: u64) -> Frac
+        requires small { n ≤ limit }
+        ensures value { result ≡ spec.fraction (pos n) 1 }
+    {
+        Frac {
+            num: n as i64,
+            den: 1,
+        }
+    }
+
     /// The whole number, if it is within the limit: all but `i64::MIN` are.
     pub fn whole(n: i64) -> Result<Frac, FracFault>
         ensures value { result ≡ if_small (spec.fraction n 1) }
@@ -101,6 +113,34 @@ impl Frac {
     {
         let num = cross_sum(self.num, other.den, other.num, self.den);
         reduced(num, self.den as u128 * other.den as u128)
+    }
+
+    /// The opposite fraction.
+    pub fn negated(self) -> Frac
+        ensures value { result ≡ spec.opposite self }
+    {
+        Frac {
+            num: opposite(self.num),
+            den: self.den,
+        }
+    }
+
+    /// One over the fraction, which isn't 0.
+    pub fn reciprocal(self) -> Frac
+        requires nonzero { is_zero self.num ≡ false }
+        ensures value { result ≡ spec.reciprocal self }
+    {
+        Frac {
+            num: with_sign_of(self.num, self.den),
+            den: self.num.unsigned_abs(),
+        }
+    }
+
+    /// Whether it is 0.
+    pub fn is_zero(self) -> bool
+        ensures value { result ≡ is_zero self.num }
+    {
+        self.num == 0
     }
 
     /// The product in lowest terms, or TooLarge where a part of it is above the limit.

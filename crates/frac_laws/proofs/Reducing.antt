@@ -51,7 +51,7 @@ remainder v d f h over =
     ap (λ z. f.num *ℤ z) (sym (pos-*ℤ-pos k f.den)) ∙ (sym (mul_assoc_ℤ f.num (pos k) (pos f.den)) ∙ ap (λ z. z *ℤ pos f.den) (*ℤ_comm f.num (pos k))) in
     omega (arith, ints)
 
-whole_multiple : (v : ℤ) (d : ℕ) (f : Fraction) → IsLowest f → IsOver v d f → d % f.den ≡ 0
+pub whole_multiple : (v : ℤ) (d : ℕ) (f : Fraction) → IsLowest f → IsOver v d f → d % f.den ≡ 0
 whole_multiple v d f low over = by (d % f.den) refl
   where
     by : (r : ℕ) → d % f.den ≡ r → d % f.den ≡ 0

@@ -1,0 +1,4 @@
+pub mod Faults
+pub mod Terms
+pub mod Kept
+pub mod Ranges
