@@ -1,7 +1,7 @@
--- The words of the faults of a text.
+-- The words of the faults of a text, and of those of a certificate.
 use Rattle.std.specs.Prelude.{◌≡◌, refl, ℕ, List, [], ◌∷◌, Some, codes}
 use Rattle.case_table.specs.declared.fault_word.FaultWord.{FaultWord}
-use Rattle.case_table.specs.declared.fault_word.FaultWord.TheVariants.{NotUtf8, BadToken, NumberTooLarge, NameTooLong, TooDeep, Unsupported, Unexpected, UnexpectedEnd, NotAnAtom, Reserved, NotLinear, ZeroDivisor, TooMany, NoVersion, Version, BadNumber}
+use Rattle.case_table.specs.declared.fault_word.FaultWord.TheVariants.{NotUtf8, BadToken, NumberTooLarge, NameTooLong, TooDeep, Unsupported, Unexpected, UnexpectedEnd, NotAnAtom, Reserved, NotLinear, ZeroDivisor, TooMany, NoVersion, Version, BadVariable, BadNumber, Form, Count, Negative, NotConstant, WrongSign}
 use Rattle.case_table.specs.Tables.{case_among, differ}
 
 abbrev pub fault_word : FaultWord → List ℕ
@@ -20,10 +20,16 @@ fault_word ZeroDivisor = codes "zero divisor"
 fault_word TooMany = codes "too many"
 fault_word NoVersion = codes "no version"
 fault_word Version = codes "version"
+fault_word BadVariable = codes "bad variable"
 fault_word BadNumber = codes "bad number"
+fault_word Form = codes "form"
+fault_word Count = codes "count"
+fault_word Negative = codes "negative"
+fault_word NotConstant = codes "not constant"
+fault_word WrongSign = codes "wrong sign"
 
 abbrev pub fault_words : List FaultWord
-fault_words = NotUtf8 ∷ BadToken ∷ NumberTooLarge ∷ NameTooLong ∷ TooDeep ∷ Unsupported ∷ Unexpected ∷ UnexpectedEnd ∷ NotAnAtom ∷ Reserved ∷ NotLinear ∷ ZeroDivisor ∷ TooMany ∷ NoVersion ∷ Version ∷ BadNumber ∷ []
+fault_words = NotUtf8 ∷ BadToken ∷ NumberTooLarge ∷ NameTooLong ∷ TooDeep ∷ Unsupported ∷ Unexpected ∷ UnexpectedEnd ∷ NotAnAtom ∷ Reserved ∷ NotLinear ∷ ZeroDivisor ∷ TooMany ∷ NoVersion ∷ Version ∷ BadVariable ∷ BadNumber ∷ Form ∷ Count ∷ Negative ∷ NotConstant ∷ WrongSign ∷ []
 
 pub found_by_word : (c : FaultWord) → case_among fault_word fault_words (fault_word c) ≡ Some c
 found_by_word NotUtf8 = refl
@@ -41,7 +47,13 @@ found_by_word ZeroDivisor = refl
 found_by_word TooMany = refl
 found_by_word NoVersion = refl
 found_by_word Version = refl
+found_by_word BadVariable = refl
 found_by_word BadNumber = refl
+found_by_word Form = refl
+found_by_word Count = refl
+found_by_word Negative = refl
+found_by_word NotConstant = refl
+found_by_word WrongSign = refl
 
 pub fault_words_differ : (a b : FaultWord) → fault_word a ≡ fault_word b → a ≡ b
 fault_words_differ = differ fault_word fault_words found_by_word

@@ -2,7 +2,7 @@ ghost use Rattle.case_table.specs.Faults.{fault_word, fault_words_differ};
 
 use crate::cases::{Cases, case_by_table, word_by_table};
 
-/// What is wrong with a text.
+/// What is wrong with a text, or with a certificate.
 #[derive(Clone, Copy, Debug, PartialEq, Eq)]
 pub enum FaultWord {
     NotUtf8,
@@ -20,7 +20,13 @@ pub enum FaultWord {
     TooMany,
     NoVersion,
     Version,
+    BadVariable,
     BadNumber,
+    Form,
+    Count,
+    Negative,
+    NotConstant,
+    WrongSign,
 }
 
 /// The table, handed on to the macro that makes a body of it.
@@ -42,7 +48,13 @@ macro_rules! fault_words {
             FaultWord::TooMany => "too many",
             FaultWord::NoVersion => "no version",
             FaultWord::Version => "version",
+            FaultWord::BadVariable => "bad variable",
             FaultWord::BadNumber => "bad number",
+            FaultWord::Form => "form",
+            FaultWord::Count => "count",
+            FaultWord::Negative => "negative",
+            FaultWord::NotConstant => "not constant",
+            FaultWord::WrongSign => "wrong sign",
         )
     };
 }

@@ -18,26 +18,27 @@ use Rattle.token_cursor.proofs.Digits.{digits_are_digits}
 -- ---- a token by its first byte
 
 -- what its first byte says of a token
-record Begins (P : Token → Type 0) (after_number : Bool) (b : ℕ) (z : List ℕ) : Type 0 where
-  name : is_ascii_lowercase b ≡ true → P (word l.Name (b ∷ z))
-  variable : (is_ascii_uppercase b || b == 95) ≡ true → P (word l.Variable (b ∷ z))
-  number : is_ascii_digit b ≡ true → P (number (b ∷ z))
-  quoted : P (quoted (b ∷ z))
-  dot : P (dot after_number z)
-  mark : P (mark (b ∷ z))
+pub record Begins (P : Token → Type 0) (after_number : Bool) (b : ℕ) (z : List ℕ) : Type 0 where
+  pub name : is_ascii_lowercase b ≡ true → P (word l.Name (b ∷ z))
+  pub variable : (is_ascii_uppercase b || b == 95) ≡ true → P (word l.Variable (b ∷ z))
+  pub number : is_ascii_digit b ≡ true → P (number (b ∷ z))
+  pub quoted : (b == 39) ≡ true → P (quoted (b ∷ z))
+  pub dot : (b == 46) ≡ true → P (dot after_number z)
+  pub mark : P (mark (b ∷ z))
 
-by_first : (P : Token → Type 0) (after_number : Bool) (b : ℕ) (z : List ℕ) → Begins P after_number b z → P (token after_number (b ∷ z))
+pub by_first : (P : Token → Type 0) (after_number : Bool) (b : ℕ) (z : List ℕ) → Begins P after_number b z → P (token after_number (b ∷ z))
 unfolding token
-by_first P after_number b z cases = go (is_ascii_lowercase b) refl (is_ascii_uppercase b || b == 95) refl (is_ascii_digit b) refl (b == 39) (b == 46)
+by_first P after_number b z cases = go (is_ascii_lowercase b) refl (is_ascii_uppercase b || b == 95) refl (is_ascii_digit b) refl (b == 39) refl (b == 46) refl
   where
-    go : (t : Bool) → is_ascii_lowercase b ≡ t → (u : Bool) → (is_ascii_uppercase b || b == 95) ≡ u → (v : Bool) → is_ascii_digit b ≡ v → (q p : Bool)
+    go : (t : Bool) → is_ascii_lowercase b ≡ t → (u : Bool) → (is_ascii_uppercase b || b == 95) ≡ u → (v : Bool) → is_ascii_digit b ≡ v
+        → (q : Bool) → (b == 39) ≡ q → (p : Bool) → (b == 46) ≡ p
         → P (cond t (word l.Name (b ∷ z)) (cond u (word l.Variable (b ∷ z)) (cond v (number (b ∷ z)) (cond q (quoted (b ∷ z)) (cond p (dot after_number z) (mark (b ∷ z)))))))
-    go true e u f v g q p = cases.name e
-    go false e true f v g q p = cases.variable f
-    go false e false f true g q p = cases.number g
-    go false e false f false g true p = cases.quoted
-    go false e false f false g false true = cases.dot
-    go false e false f false g false false = cases.mark
+    go true e u f v g q h p i = cases.name e
+    go false e true f v g q h p i = cases.variable f
+    go false e false f true g q h p i = cases.number g
+    go false e false f false g true h p i = cases.quoted h
+    go false e false f false g false h true i = cases.dot i
+    go false e false f false g false h false i = cases.mark
 
 -- ---- what words, quoted names and marks are not
 
@@ -118,8 +119,8 @@ number_cases after_number b z = record {
   name = λ e h. absurd (no_word (nat_lt max_name (word_len (b ∷ z))) l.Name l.Number h (λ p. cc) (λ p. cc));
   variable = λ e h. absurd (no_word (nat_lt max_name (word_len (b ∷ z))) l.Variable l.Number h (λ p. cc) (λ p. cc));
   number = λ e h. record { len = refl; small = in_limit (number_value (take (digits_len (b ∷ z)) (b ∷ z))) (joins_number (drop (digits_len (b ∷ z)) (b ∷ z))) h };
-  quoted = λ h. absurd (no_quoted (b ∷ z) (closing (drop 1 (b ∷ z))) l.Number h (λ p. cc) (λ p. cc) (λ p. cc));
-  dot = λ h. absurd ((no_mark _ (dot_is_mark after_number z)).2 h);
+  quoted = λ e h. absurd (no_quoted (b ∷ z) (closing (drop 1 (b ∷ z))) l.Number h (λ p. cc) (λ p. cc) (λ p. cc));
+  dot = λ e h. absurd ((no_mark _ (dot_is_mark after_number z)).2 h);
   mark = λ h. absurd ((no_mark _ (mark_is_mark (b ∷ z))).2 h);
 }
 
@@ -145,10 +146,10 @@ positive_word b z e = rw e (omega arith)
 positive_digits : (b : ℕ) (z : List ℕ) → is_ascii_digit b ≡ true → 0 < digits_len (b ∷ z)
 positive_digits b z e = rw e (omega arith)
 
-lower_word : (b : ℕ) → is_ascii_lowercase b ≡ true → is_word b ≡ true
+pub lower_word : (b : ℕ) → is_ascii_lowercase b ≡ true → is_word b ≡ true
 lower_word b e = grind (arith, nat_tests)
 
-upper_word : (b : ℕ) → (is_ascii_uppercase b || b == 95) ≡ true → is_word b ≡ true
+pub upper_word : (b : ℕ) → (is_ascii_uppercase b || b == 95) ≡ true → is_word b ≡ true
 upper_word b e = grind (arith, nat_tests)
 
 positive_quoted : (text : List ℕ) (end : Option ℕ) → 0 < (quoted_by text end).len
@@ -181,8 +182,8 @@ positive_cases after_number b z = record {
   name = λ e. positive_word b z (lower_word b e);
   variable = λ e. positive_word b z (upper_word b e);
   number = λ e. positive_digits b z e;
-  quoted = positive_quoted (b ∷ z) (closing z);
-  dot = omega arith;
+  quoted = λ e. positive_quoted (b ∷ z) (closing z);
+  dot = λ e. omega arith;
   mark = positive_mark (b ∷ z);
 }
 

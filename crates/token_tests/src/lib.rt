@@ -1,7 +1,9 @@
-//! Tests of the tokens of programs and scripts, through the public calls of `token_cursor`. There is no other code
-//! here: a test in the crate that it tests has that whole crate proved once more.
+//! Tests of the tokens of programs and scripts, through the public calls of `token_cursor` and `token_at`. There is no
+//! other code here: a test in the crate that it tests has that whole crate proved once more.
 #![tactic(auto)]
 
+#[cfg(test)]
+mod places;
 #[cfg(test)]
 mod tokens;
 

@@ -1,6 +1,0 @@
-use Rattle.std.proofs.Common.{◌≡◌, ◌+◌, drop}
-use Rattle.clp_tokens.specs.Tokens.{word_len}
-use Rattle.clp_tokens.proofs.token.word_len.Given as goal
-
-abbrev pub invariant-loop-at : goal.invariant-loop-at
-invariant-loop-at l = word_len l.text ≡ l.at + word_len (drop l.at l.text)

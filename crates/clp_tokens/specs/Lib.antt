@@ -1,4 +1,0 @@
-pub mod Numbers
-pub mod Tokens
-pub mod Parsers
-pub mod Cursor

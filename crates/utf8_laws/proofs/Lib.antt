@@ -1,0 +1,4 @@
+pub mod Skipping
+pub mod Ends
+pub mod Texts
+pub mod Steps
