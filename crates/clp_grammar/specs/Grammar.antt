@@ -1,117 +1,86 @@
--- The grammar of programs, read from the left with one token ahead.
-use Rattle.std.specs.Prelude.{ℕ, zero, suc, Bool, ◌&&◌, nat_eq, if◌then◌else◌, List, [], ◌∷◌, ◌++◌, length, replicate, codes, Option, Some, None, Result, Ok, Err}
-use Rattle.std.specs.Str.{bytes_eq}
-use Rattle.clp_tokens.specs.declared.token.TokenKind.{TokenKind}
-use Rattle.clp_tokens.specs.declared.token.TokenKind.TheVariants as k
-use Rattle.clp_tokens.specs.declared.fault.Kind.TheVariants.{TooDeep, TooMany, NotAnAtom, Reserved}
-use Rattle.clp_tokens.specs.declared.fault.Fault.{Fault}
-use Rattle.clp_tokens.specs.Cursor.{kind, fault_at, refusal}
-use Rattle.clp_tokens.specs.Parsers.{Parser, ◌>>=◌, ◌>>◌, ◌<$>◌, pure, value_of}
-use Rattle.clp_model.specs.declared.sort.Sort.{Sort}
-use Rattle.clp_model.specs.declared.sort.Sort.TheVariants.{Any}
-use Rattle.clp_model.specs.declared.tree.Tree.{Tree, Var, App, App'}
-use Rattle.clp_model.specs.Trees.{name_of, arguments_of}
+-- Programs, goals, and clauses within a text: what they stand for, or their first fault.
+use Rattle.std.specs.Prelude.{ℕ, zero, suc, ◌-◌, nat_lt, Bool, true, false, if◌then◌else◌, List, [], ◌∷◌, ◌++◌, length, drop, Result, Ok, Err}
+use Rattle.token_model.specs.declared.token.Lexeme.{Lexeme}
+use Rattle.token_model.specs.declared.token.Lexeme.TheVariants as l
+use Rattle.token_model.specs.declared.fault.Kind.TheVariants.{TooMany}
+use Rattle.token_model.specs.declared.fault.Fault.{Fault}
+use Rattle.token_model.specs.Remaining.{Remaining, whole, lexeme, left, sees, fault_at, refusal}
+use Rattle.token_model.specs.Parsers.{Parser, Outcome}
+use Rattle.token_cursor.specs.Utf8.{not_utf8}
 use Rattle.clause_store.specs.declared.source.SourceClause.{SourceClause}
-use Rattle.clp_grammar.specs.Input.{Input, start, anew, sees, fail, refuse, peek, comes, take_token, eat, expect, separated, variable, here, note, settle}
-
--- how many brackets may be open at a place
-abbrev pub max_open : ℕ
-max_open = 256
+use Rattle.clp_grammar.specs.declared.draft.Draft.{Draft}
+use Rattle.clp_grammar.specs.Input.{Input, start}
+use Rattle.clp_grammar.specs.Drafts.{draft, end, end_or_finish}
+use Rattle.clp_grammar.specs.Directives.{directive}
+use Rattle.clp_grammar.specs.Evaluation.{with_value}
+use Rattle.clp_grammar.specs.Clauses.{meaning, unless}
 
 -- how many clauses a program may have
 abbrev pub max_clauses : ℕ
 max_clauses = 4096
 
--- ---- terms
-
-module _ (arguments : Parser Input (List (Tree ℕ))) where
-  -- a name, with or without arguments
-  unfoldable pub application : Parser Input (Tree ℕ)
-  application = do
-    name ← take_token
-    is_open ← comes k.Open
-    if is_open then App name <$> arguments else pure (App name [])
-
-  -- by the kind of the token that comes next: a name with its arguments, or a variable
-  abbrev pub term_by : TokenKind → Parser Input (Tree ℕ)
-  term_by k.Name = application
-  term_by k.Variable = Var <$> variable
-  term_by _ = refuse
-
-  -- a term with these arguments
-  unfoldable pub term_with : Parser Input (Tree ℕ)
-  term_with = peek >>= term_by
-
--- arguments in brackets, where this many more may be open
-unfoldable pub arguments : ℕ → Parser Input (List (Tree ℕ))
-arguments zero = fail TooDeep
-arguments (suc more) = do
-  expect k.Open
-  found ← separated (term_with (arguments more))
-  expect k.Close
-  pure found
-
--- a term, where this many more brackets may be open
-abbrev pub term : ℕ → Parser Input (Tree ℕ)
-term more = term_with (arguments more)
-
 -- ---- clauses
 
--- the word that is no predicate without arguments
-unfoldable pub is_true : Tree ℕ → Bool
-is_true t = bytes_eq (name_of t) (codes "true") && nat_eq (length (arguments_of t)) 0
+abbrev pub meant : Outcome Input Draft → Outcome Remaining SourceClause
+meant (Ok p) = with_value (meaning p.0) (λ c. Ok (c, p.1.remaining))
+meant (Err e) = Err e
 
--- what is wrong with a head or a goal from whose first byte on there are this many
-unfoldable pub misplacement : ℕ → Tree ℕ → Option Fault
-misplacement left (Var n) = Some (record { left = left; kind = NotAnAtom })
-misplacement left (App' name shape args) = if is_true (App' name shape args) then Some (record { left = left; kind = Reserved }) else None
+-- Tokens and grammar come first, up to and with the end, and then what the clause stands for.
+unfoldable pub clause_with : Parser Input (Unit {0}) → Parser Remaining SourceClause
+clause_with ending r = meant (draft ending (start r))
 
--- a head or a goal; whether it is an atom is told at the end of its clause
-unfoldable pub goal : Parser Input (Tree ℕ)
-goal = do
-  left ← here
-  found ← term max_open
-  note (misplacement left found)
-  pure found
-
--- `:-` and one or more goals, or nothing
-unfoldable pub body : Parser Input (List (Tree ℕ))
-body = do
-  has_body ← eat k.If
-  if has_body then separated goal else pure []
-
--- each variable of the clause may be any value
-unfoldable pub sorts : Parser Input (List Sort)
-sorts = λ i. Ok (replicate (length i.names) Any, i)
-
--- Tokens and grammar come first, up to and with the end; then the first head or goal that is no atom is told.
--- Equations and rows can't be written yet.
-unfoldable pub clause : Parser Input SourceClause
-clause = do
-  head ← goal
-  atoms ← body
-  expect k.End
-  settle
-  kinds ← sorts
-  pure (record { head = head; equations = []; rows = []; atoms = atoms; sorts = kinds })
+-- a clause with its end
+abbrev pub clause : Parser Remaining SourceClause
+clause = clause_with end
 
 -- ---- programs
 
--- by the kind of the token that comes next: it begins a clause too many, or can begin none
-abbrev pub past_limit_by : TokenKind → List ℕ → Fault
-past_limit_by k.Name text = fault_at TooMany text
-past_limit_by k.Variable text = fault_at TooMany text
-past_limit_by _ text = refusal text
+-- such a token begins a clause
+abbrev pub begins_clause : Lexeme → Bool
+begins_clause l.Name = true
+begins_clause l.Quoted = true
+begins_clause l.Variable = true
+begins_clause l.Number = true
+begins_clause l.OpenRound = true
+begins_clause l.OpenSquare = true
+begins_clause l.Plus = true
+begins_clause l.Minus = true
+begins_clause _ = false
 
--- why no clause may begin here
-unfoldable pub past_limit : List ℕ → Fault
-past_limit text = past_limit_by (kind text) text
+-- why no clause may begin here, after as many as there may be
+unfoldable pub past_limit : Remaining → Fault
+past_limit r = if begins_clause (lexeme r) then fault_at TooMany r else refusal r
 
--- this many more clauses at most, to the end of the text
-unfoldable pub clauses_from : ℕ → List SourceClause → Parser Input (List SourceClause)
-clauses_from zero found = λ i. if sees k.Finish i then Ok (found, i) else Err (past_limit i.text)
-clauses_from (suc n) found = λ i. if sees k.Finish i then Ok (found, i) else ((do c ← clause; clauses_from n (found ++ c ∷ [])) (anew i))
+-- one clause more than these
+unfoldable pub next_clause : List SourceClause → Parser Remaining SourceClause
+next_clause found r = if nat_lt (length found) max_clauses then clause r else Err (past_limit r)
+
+-- by the token that comes next: the end of the text, a directive, or a clause
+abbrev pub clauses_by : (List SourceClause → Remaining → Result (List SourceClause) Fault) → List SourceClause → Remaining → Lexeme → Result (List SourceClause) Fault
+clauses_by again found r l.Finish = Ok found
+clauses_by again found r l.If = with_value (directive r) (again found)
+clauses_by again found r _ = with_value (next_clause found r) (λ p. again (found ++ p.0 ∷ []) p.1)
+
+-- The clauses to the end of the text, after those that were found. The number bounds the turns, and each takes a token,
+-- so the count of bytes is enough.
+unfoldable pub clauses_from : ℕ → List SourceClause → Remaining → Result (List SourceClause) Fault
+clauses_from zero found r = Ok found
+clauses_from (suc n) found r = clauses_by (clauses_from n) found r (lexeme r)
 
 -- the clauses that a text is, or its first fault
 unfoldable pub program : List ℕ → Result (List SourceClause) Fault
-program text = value_of (clauses_from max_clauses [] (start text))
+program text = unless (not_utf8 text) (clauses_from (left (whole text)) [] (whole text))
+
+-- ---- a goal, and a clause within a text
+
+-- nothing stands behind the clause
+abbrev pub alone : SourceClause × Remaining → Result SourceClause Fault
+alone p = if sees l.Finish p.1 then Ok p.0 else Err (refusal p.1)
+
+-- the one clause that a text is, whose end may be missing, or its first fault
+unfoldable pub goal_text : List ℕ → Result SourceClause Fault
+goal_text text = unless (not_utf8 text) (with_value (clause_with end_or_finish (whole text)) alone)
+
+-- the clause that stands at this byte, with its end, and the place after it
+unfoldable pub clause_at : List ℕ → ℕ → Result (SourceClause × ℕ) Fault
+clause_at text at = with_value (clause (whole (drop at text))) (λ p. Ok (p.0, length text - length p.1.text))

@@ -1,118 +1,110 @@
 -- What a reader of programs reads from, and the steps that its rules are made of.
-use Rattle.std.specs.Prelude.{ℕ, zero, suc, ◌+◌, Bool, if◌then◌else◌, List, [], ◌∷◌, ◌++◌, length, position, Option, Some, None, Ok, Err}
-use Rattle.std.specs.Option.{option_or}
-use Rattle.std.specs.Str.{bytes_eq}
-use Rattle.clp_tokens.specs.declared.token.TokenKind.{TokenKind}
-use Rattle.clp_tokens.specs.declared.token.TokenKind.TheVariants as k
-use Rattle.clp_tokens.specs.declared.fault.Kind.{Kind}
-use Rattle.clp_tokens.specs.declared.fault.Fault.{Fault}
-use Rattle.clp_tokens.specs.Cursor as cursor
-use Rattle.clp_tokens.specs.Parsers.{Parser, ◌>>=◌, pure}
+use Rattle.std.specs.Prelude.{ℕ, zero, suc, Bool, true, false, if◌then◌else◌, List, [], ◌∷◌, ◌++◌, Ok, Err}
+use Rattle.token_model.specs.declared.token.Lexeme.{Lexeme}
+use Rattle.token_model.specs.declared.token.Lexeme.TheVariants as l
+use Rattle.token_model.specs.declared.fault.Kind.{Kind}
+use Rattle.token_model.specs.declared.fault.Kind.TheVariants.{TooDeep}
+use Rattle.token_model.specs.declared.fault.Fault.{Fault}
+use Rattle.token_model.specs.Numbers.{number_value}
+use Rattle.token_model.specs.Remaining as token
+use Rattle.token_model.specs.Remaining.{Remaining}
+use Rattle.token_cursor.specs.Escapes.{name_by}
+use Rattle.token_model.specs.Parsers.{Parser, ◌>>=◌, ◌<$>◌, pure}
 
--- the text that is left, and what is known of the clause so far
+-- what remains of the text, and the variables of the clause so far
 pub record Input : Type 0 where
-  -- the text after the last token
-  pub text : List ℕ
-  -- the variables of the clause so far, by their numbers, and the empty name for each `_`
+  pub remaining : Remaining
+  -- by their numbers; the empty name stands for each `_`
   pub names : List (List ℕ)
-  -- what is wrong with the first head or goal of the clause so far that is no atom
-  pub misplaced : Option Fault
 
 -- before anything of a clause was read
-abbrev pub start : List ℕ → Input
-start text = record { text = text; names = []; misplaced = None }
+abbrev pub start : Remaining → Input
+start r = record { remaining = r; names = [] }
 
--- each clause has its own variables and goals
-unfoldable pub anew : Input → Input
-anew i = start i.text
-
--- the input with this text in place of its own
-abbrev pub at_text : List ℕ → Input → Input
-at_text text i = record i { text = text }
+-- after the next token
+abbrev pub passed : Input → Input
+passed i = record i { remaining = token.next i.remaining }
 
 -- how many bytes there are from the next token on
 abbrev pub left : Input → ℕ
-left i = cursor.left i.text
+left i = token.left i.remaining
+
+-- such a token comes next
+abbrev pub sees : Lexeme → Input → Bool
+sees wanted i = token.sees wanted i.remaining
+
+-- ---- brackets
+
+-- How many brackets may be open at a place, each comma between elements of a list that is still open counted as one.
+abbrev pub max_open : ℕ
+max_open = 256
+
+abbrev pub is_opening : Lexeme → Bool
+is_opening l.OpenRound = true
+is_opening l.OpenSquare = true
+is_opening l.OpenCurly = true
+is_opening _ = false
+
+-- why no rule goes on here, where this many more brackets may be open
+unfoldable pub refusal : ℕ → Remaining → Fault
+refusal zero r = if is_opening (token.lexeme r) then token.fault_at TooDeep r else token.refusal r
+refusal (suc more) r = token.refusal r
 
 -- ---- tokens
 
--- a token of this kind comes next
-abbrev pub sees : TokenKind → Input → Bool
-sees k i = cursor.sees k i.text
-
--- a fault at the next token
+-- a fault of this kind at the next token
 abbrev pub fail : {A : Type 0} → Kind → Parser Input A
-fail kind = λ i. Err (cursor.fault_at kind i.text)
+fail kind = λ i. Err (token.fault_at kind i.remaining)
 
--- no rule goes on here
-abbrev pub refuse : {A : Type 0} → Parser Input A
-refuse = λ i. Err (cursor.refusal i.text)
-
--- the kind of the next token, which is not passed
-abbrev pub peek : Parser Input TokenKind
-peek = λ i. Ok (cursor.kind i.text, i)
-
--- whether a token of this kind comes next, which is not passed
-abbrev pub comes : TokenKind → Parser Input Bool
-comes k = λ i. Ok (sees k i, i)
-
--- the bytes of the next token
-abbrev pub take_token : Parser Input (List ℕ)
-take_token = λ i. Ok (cursor.spelling i.text, at_text (cursor.next i.text) i)
-
--- passes a token of this kind, if it comes next
-abbrev pub eat : TokenKind → Parser Input Bool
-eat k = λ i. Ok (sees k i, at_text (cursor.after k i.text) i)
-
--- passes a token of this kind
-unfoldable pub expect : TokenKind → Parser Input (Unit {0})
-expect k = λ i. if sees k i then Ok (tt, at_text (cursor.next i.text) i) else refuse i
-
--- One or more, with commas between. The number bounds the turns, and each takes a token, so the count of bytes is enough.
-unfoldable pub separated_from : {A : Type 0} → Parser Input A → ℕ → List A → Parser Input (List A)
-separated_from item zero found = refuse
-separated_from item (suc n) found = do
-  x ← item
-  more ← eat k.Comma
-  if more then separated_from item n (found ++ x ∷ []) else pure (found ++ x ∷ [])
-
-unfoldable pub separated : {A : Type 0} → Parser Input A → Parser Input (List A)
-separated item = λ i. separated_from item (left i) [] i
-
--- ---- variables
-
--- the next number, for a variable of this name
-unfoldable pub fresh : List ℕ → Parser Input ℕ
-fresh name = λ i. Ok (length i.names + 1, record i { names = i.names ++ name ∷ [] })
-
--- the number at this place, or the next one for a name that has none
-abbrev pub known_or_new : List ℕ → Option ℕ → Parser Input ℕ
-known_or_new name (Some at) = pure (at + 1)
-known_or_new name None = fresh name
-
--- the number of a variable; `_` is a new variable each time
-unfoldable pub numbered : List ℕ → Parser Input ℕ
-numbered name = λ i. if bytes_eq name (95 ∷ []) then fresh [] i else known_or_new name (position (bytes_eq name) i.names) i
-
--- the variable that comes next
-unfoldable pub variable : Parser Input ℕ
-variable = take_token >>= numbered
-
--- ---- heads and goals that are no atoms
+-- no rule goes on here, where this many more brackets may be open
+abbrev pub refuse : {A : Type 0} → ℕ → Parser Input A
+refuse more = λ i. Err (refusal more i.remaining)
 
 -- how many bytes there are from here on
 abbrev pub here : Parser Input ℕ
 here = λ i. Ok (left i, i)
 
--- keeps the first fault of a head or a goal
-unfoldable pub note : Option Fault → Parser Input (Unit {0})
-note fault = λ i. Ok (tt, record i { misplaced = option_or i.misplaced fault })
+-- what the next token is, which is not passed
+abbrev pub peek : Parser Input Lexeme
+peek = λ i. Ok (token.lexeme i.remaining, i)
 
--- nothing, or this fault
-abbrev pub unless : Option Fault → Parser Input (Unit {0})
-unless None = pure tt
-unless (Some fault) = λ i. Err fault
+-- whether such a token comes next, which is not passed
+abbrev pub comes : Lexeme → Parser Input Bool
+comes wanted = λ i. Ok (sees wanted i, i)
 
--- tells the fault that was kept, if there is one
-unfoldable pub settle : Parser Input (Unit {0})
-settle = λ i. unless i.misplaced i
+-- passes the next token
+abbrev pub pass : Parser Input (Unit {0})
+pass = λ i. Ok (tt, passed i)
+
+-- the bytes of the next token, which is passed
+abbrev pub take_token : Parser Input (List ℕ)
+take_token = λ i. Ok (token.spelling i.remaining, passed i)
+
+-- passes such a token, if it comes next
+unfoldable pub eat : Lexeme → Parser Input Bool
+eat wanted = λ i. Ok (sees wanted i, record i { remaining = token.after wanted i.remaining })
+
+-- passes such a token, which must come next, where this many more brackets may be open
+unfoldable pub expect : ℕ → Lexeme → Parser Input (Unit {0})
+expect more wanted = λ i. if sees wanted i then Ok (tt, passed i) else Err (refusal more i.remaining)
+
+-- the name that comes next, plain or quoted
+abbrev pub name : Lexeme → Parser Input (List ℕ)
+name lexeme = name_by lexeme <$> take_token
+
+-- the number that comes next
+abbrev pub number : Parser Input ℕ
+number = number_value <$> take_token
+
+-- ---- lists
+
+-- One or more, with commas between. The number bounds the turns, and each takes a token, so the count of bytes is enough.
+unfoldable pub separated_from : {A : Type 0} → Parser Input A → ℕ → List A → Parser Input (List A)
+separated_from item zero found = refuse max_open
+separated_from item (suc n) found = do
+  x ← item
+  goes_on ← eat l.Comma
+  if goes_on then separated_from item n (found ++ x ∷ []) else pure (found ++ x ∷ [])
+
+unfoldable pub separated : {A : Type 0} → Parser Input A → Parser Input (List A)
+separated item = λ i. separated_from item (left i) [] i

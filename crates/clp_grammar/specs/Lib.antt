@@ -1,3 +1,10 @@
 pub mod Input
+pub mod Names
+pub mod Expressions
+pub mod Goals
+pub mod Drafts
+pub mod Directives
+pub mod Evaluation
+pub mod Terms
+pub mod Clauses
 pub mod Grammar
-pub mod Readable

@@ -1,0 +1,5 @@
+pub mod Parts
+pub mod ShortNames
+pub mod Reading
+pub mod Rules
+pub mod Clauses

@@ -1,0 +1,9 @@
+pub mod Rows
+pub mod Sorts
+pub mod Known
+pub mod Evaluating
+pub mod Trees
+pub mod Terms
+pub mod Goals
+pub mod Clauses
+pub mod Programs

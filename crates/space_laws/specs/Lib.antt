@@ -1,0 +1,3 @@
+pub mod Moved
+pub mod Same
+pub mod Laws
