@@ -1,6 +1,3 @@
-pub mod Naming
+pub mod Ends
+pub mod Told
 pub mod Turns
-pub mod Inputs
-pub mod Trees
-pub mod Readable
-pub mod Narrow

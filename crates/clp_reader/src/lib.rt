@@ -1,12 +1,10 @@
-//! Reads the text of programs: exactly the source clauses that the grammar gives, or the first fault of a text that is
-//! no program. What is read may be loaded.
+//! Reads the texts of programs and goals, and clauses within texts: exactly the source clauses that the grammar gives,
+//! or the first fault of a text that has none, with its place. What is read may be loaded.
 #![tactic(auto)]
 
-mod names;
-mod program;
-mod reader;
-mod term;
-mod text_error;
+mod clauses;
+mod places;
+mod texts;
 
-pub use program::{read_clauses, read_program};
-pub use text_error::TextError;
+pub use places::clause_at;
+pub use texts::{read_clauses, read_goal, read_program};

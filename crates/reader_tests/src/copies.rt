@@ -5,9 +5,10 @@ ghost use Rattle.std.specs.Prelude.{◌<◌, ◌^◌, length};
 use clause_loader::load;
 use clause_store::{Clause, SourceClause};
 use clp_model::Pred;
-use clp_reader::{TextError, read_program};
+use clp_reader::read_program;
 use std::alloc::Global;
 use std::test::Fail;
+use text_fault::TextError;
 
 /// A short name and one that is longer than a name's own room, and a constant, a term and variables.
 const PROGRAM: &str = "p(f(a,X),Y) :- q(X), name_of_more_than_16_bytes(Y,Y).";

@@ -13,7 +13,7 @@ use term_store::{NoMemory, Store};
 /// A program, and what is printed of it.
 type Case = (&'static str, &'static str);
 
-static CASES: [Case; 7] = [
+static CASES: [Case; 13] = [
     ("", ""),
     ("p.", "p.\n"),
     (
@@ -30,6 +30,17 @@ static CASES: [Case; 7] = [
     ),
     // equal clauses stand twice
     ("p(a). p(a).", "p(a).\np(a).\n"),
+    // rows, of which a new variable has one, and variables that are numbers in no row
+    (
+        "p(X) :- X > 2, X =< 5, q(X).",
+        "p(V1) :- {-V1 + 2 < 0, V1 - 5 =< 0}, q(V1).\n",
+    ),
+    ("p(X+1).", "p(V1) :- {V1 - V2 - 1 = 0}.\n"),
+    ("p(X) :- {num(X)}.", "p(V1) :- {num(V1)}.\n"),
+    // equations are solved, and a clause without solution is left out
+    ("p(X) :- X = f(Y), Y = a.", "p(f(a)).\n"),
+    ("p(X) :- X = a, X = b. q.", "q.\n"),
+    ("p([a,B|C],'it''s') :- [] = C.", "p([a,V1],'it\\'s').\n"),
 ];
 
 /// Appends the texts of the clauses at these places.

@@ -1,124 +1,128 @@
-//! Programs that are read, first faults, and the numbers of variables.
+//! Programs that are read: what each text stands for.
 
 ghost use Rattle.std.specs.Prelude.{◌<◌, ◌^◌, length};
 
-use clause_store::SourceClause;
-use clp_model::Tree;
-use clp_reader::{TextError, read_clauses, read_program};
-use clp_tokens::{Kind, ReadError};
+use crate::showing::show;
+use clp_reader::{read_clauses, read_program};
 use std::alloc::Global;
 
-/// A text, and how many clauses it has, or what its first fault is and how many bytes there are from it on.
-type Case = (&'static [u8], Result<usize, (usize, Kind)>);
+/// A text and its clauses.
+type Case = (&'static str, &'static str);
 
-static CASES: [Case; 20] = [
-    (b"", Ok(0)),
-    (b" p ( X,f (Y , _) ) :-\n\tq(X) , r. \r\n s .", Ok(2)),
-    (b"p(true) :- true(a).", Ok(1)),
-    (b"p(", Err((0, Kind::UnexpectedEnd))),
-    (b"p :- q", Err((0, Kind::UnexpectedEnd))),
-    (b"p q.", Err((2, Kind::Unexpected))),
-    (b"p().", Err((2, Kind::Unexpected))),
-    (b"p(a,).", Err((2, Kind::Unexpected))),
-    (b"p :- .", Err((1, Kind::Unexpected))),
-    (b"p :- q, .", Err((1, Kind::Unexpected))),
-    (b"1.", Err((2, Kind::Unexpected))),
-    (b"p.q", Err((2, Kind::BadToken))),
-    (b"p. q(*).", Err((3, Kind::BadToken))),
-    (b"p :- X.", Err((2, Kind::NotAnAtom))),
-    (b"X :- true.", Err((10, Kind::NotAnAtom))),
-    (b"true :- X.", Err((10, Kind::Reserved))),
-    (b"p :- true(a), true.", Err((5, Kind::Reserved))),
-    (b"p :- X, q", Err((0, Kind::UnexpectedEnd))),
-    (b"p :- X, *.", Err((2, Kind::BadToken))),
-    (b"p :- X. *", Err((4, Kind::NotAnAtom))),
+static CASES: [Case; 33] = [
+    ("", ""),
+    (
+        " p ( X,f (Y , _) ) :-\n\tq(X) , r. \r\n s .",
+        "p(V1,f(V2,V3)) :- q(V1), r. AAA\ns.",
+    ),
+    ("p. % q.\n/* r. */ s.", "p.\ns."),
+    (
+        ":- a :- b ; c -> [d. p. :- \\+ '.' (X) , 1.2 . q.",
+        "p.\nq.",
+    ),
+    // names, brackets and `true`
+    ("p(true) :- true(a).", "p(true) :- true(a)."),
+    ("p :- true, q, (true), r.", "p :- q, r."),
+    ("((p(X))) :- ((q(((X))))).", "p(V1) :- q(V1). A"),
+    ("'P q'('it''s','\\n') :- 'p'.", "P q(it's,\n) :- p."),
+    (
+        "num(X) :- num(X), fail, false.",
+        "num(V1) :- num(V1), fail, false. A",
+    ),
+    // variables are numbered as they are met, and `_` is a new one each time
+    (
+        "p(A,B,A,_,_,B,_A,__,_).",
+        "p(V1,V2,V1,V3,V4,V2,V5,V6,V7). AAAAAAA",
+    ),
+    (
+        "p(A,B,C,D,E,F,G,H,I,J,K,L,M,N,O,P,Q,P,Q,A,R,_,R,Q). p(Q).",
+        "p(V1,V2,V3,V4,V5,V6,V7,V8,V9,V10,V11,V12,V13,V14,V15,V16,V17,V16,V17,V1,V18,V19,V18,V17). AAAAAAAAAAAAAAAAAAA\np(V1). A",
+    ),
+    // lists
+    (
+        "p([],[a],[a,X|T],'[]','.'(a,b)).",
+        "p([],.(a,[]),.(a,.(V1,V2)),[],.(a,b)). AA",
+    ),
+    ("p([a|[b|[]]]).", "p(.(a,.(b,[])))."),
+    // a linear expression that is a term is a new variable, after those that it has
+    ("p(2).", "p(V1) :- {V1 - 2 = 0}. N"),
+    ("p(X+1,X).", "p(V2,V1) :- {V1 - V2 + 1 = 0}. NN"),
+    ("p(+X).", "p(V2) :- {V1 - V2 = 0}. NN"),
+    ("p((X)).", "p(V1). A"),
+    (
+        "p([X,-(X)]) :- q(f(1)).",
+        "p(.(V1,.(V2,[]))) :- {V1 + V2 = 0}, {V3 - 1 = 0}, q(f(V3)). NNN",
+    ),
+    ("p(1) :- q(X).", "p(V1) :- {V1 - 1 = 0}, q(V2). NA"),
+    // relations: the left less the right, or the right less the left
+    ("p(X) :- X > 2, q(X).", "p(V1) :- {-V1 + 2 < 0}, q(V1). N"),
+    ("p(X) :- X < 2.", "p(V1) :- {V1 - 2 < 0}. N"),
+    ("p(X) :- X =< 2.", "p(V1) :- {V1 - 2 =< 0}. N"),
+    ("p(X) :- X >= 2.", "p(V1) :- {-V1 + 2 =< 0}. N"),
+    ("p(X) :- -(X) >= - 2.", "p(V1) :- {V1 - 2 =< 0}. N"),
+    ("p(X) :- X =:= 1/3 + 1/6.", "p(V1) :- {2*V1 - 1 = 0}. N"),
+    ("p :- X - X =:= 0.", "p :- {0 = 0}. N"),
+    (
+        "p :- 7 - 2 - 3 =:= X, 8 / 2 / 2 =:= Y.",
+        "p :- {V1 - 2 = 0}, {V2 - 2 = 0}. NN",
+    ),
+    (
+        "p(X,Y) :- (X + 1) * 2 < Y / 3 * (2 - 1/2).",
+        "p(V1,V2) :- {4*V1 - V2 + 4 < 0}. NN",
+    ),
+    // `=` is an equation of terms outside braces, and one of numbers inside
+    (
+        "p(X) :- X = f(Y), Z = X.",
+        "p(V1) :- V1 = f(V2), V3 = V1. AAA",
+    ),
+    (
+        "p(X) :- X = Y + 1.",
+        "p(V1) :- V1 = V3, {V2 - V3 + 1 = 0}. ANN",
+    ),
+    ("p(X) :- {X = Y + 1}.", "p(V1) :- {V1 - V2 - 1 = 0}. NN"),
+    (
+        "p(X) :- {X =< 3, num(Y), Y = 2*X/4}.",
+        "p(V1) :- {V1 - 3 =< 0}, {V1 - 2*V2 = 0}. NN",
+    ),
+    ("p(X) :- {num(X), num(Y) , num(X)}, q.", "p(V1) :- q. NN"),
 ];
 
-#[test]
-fn reads_programs_or_tells_their_first_fault(rt: HostRuntime) {
-    for (at, case) in CASES.iter().enumerate() {
-        let (text, wanted) = *case;
-        assert!(rt; text.len() < 4096);
-        match read_clauses(rt.alloc(), text) {
-            Ok(found) => assert_eq!(rt; Ok(found.len()), wanted, "case {at}"),
-            Err(ReadError::Fault(fault)) => {
-                assert_eq!(rt; Err((fault.left, fault.kind)), wanted, "case {at}");
-            }
-            Err(ReadError::NoMemory) => assert!(rt; false, "no memory"),
-        }
+/// Whether this is what the text stands for.
+fn reads(alloc: Global, text: &[u8], wanted: &str) -> bool
+    requires { length text.now < 2 ^ 32 }
+{
+    let Ok(clauses) = read_program(alloc, text) else {
+        return false;
+    };
+    match show(alloc, clauses.as_slice()) {
+        Ok(shown) => shown.as_str() == wanted,
+        Err(_) => false,
     }
 }
 
 #[test]
 fn reads_programs(rt: HostRuntime) {
-    for (at, case) in CASES.iter().enumerate() {
-        let (text, wanted) = *case;
+    for (text, wanted) in CASES.iter() {
         assert!(rt; text.len() < 4096);
-        match read_program(rt.alloc(), text) {
-            Ok(found) => assert_eq!(rt; Ok(found.len()), wanted, "case {at}"),
-            Err(TextError::Fault) => assert!(rt; wanted.is_err(), "case {at}"),
-            Err(TextError::NoMemory) => assert!(rt; false, "no memory"),
-        }
+        assert!(rt; reads(rt.alloc(), text.as_bytes(), wanted), "{text}");
     }
 }
 
-/// A fact over variables alone, and their numbers.
-type Numbering = (&'static str, &'static [u32]);
-
-static NUMBERINGS: [Numbering; 4] = [
-    ("p(A).", &[1]),
-    ("p(A,B,A,_,_,B,_A,__,_).", &[1, 2, 1, 3, 4, 2, 5, 6, 7]),
-    (
-        "p(A,B,C,D,E,F,G,H,I,J,K,L,M,N,O,P,Q,P,Q,A,R,_,R,Q).",
-        &[
-            1, 2, 3, 4, 5, 6, 7, 8, 9, 10, 11, 12, 13, 14, 15, 16, 17, 16, 17, 1, 18, 19, 18, 17,
-        ],
-    ),
-    (
-        "p(_,_,_,_,_,_,_,_,_,_,_,_,_,_,_,_,A,_,B,A,B,_,C,B,C).",
-        &[
-            1, 2, 3, 4, 5, 6, 7, 8, 9, 10, 11, 12, 13, 14, 15, 16, 17, 18, 19, 17, 19, 20, 21, 19,
-            21,
-        ],
-    ),
-];
-
-/// Whether the arguments are these variables in order.
-fn are_variables(args: &[Tree], numbers: &[u32]) -> bool {
-    if args.len() != numbers.len() {
-        return false;
+/// Whether so many clauses are read of so many facts `p.`, or none.
+fn counted(alloc: Global, count: usize) -> Option<usize> {
+    let mut text = String::new(alloc);
+    for _fact in 0..count {
+        text.push_str("p. ").ok()?;
     }
-    for (at, number) in numbers.iter().enumerate() {
-        match args.get(at) {
-            Some(Tree::Var(found)) if found == number => {}
-            _ => return false,
-        }
+    if text.len() >= 65536 {
+        return None;
     }
-    true
-}
-
-/// Whether the text is read as one clause whose head has these variables in order.
-fn has_variables(alloc: Global, text: &str, numbers: &[u32]) -> bool
-    requires { length text.now < 2 ^ 32 }
-{
-    let Ok(clauses) = read_program(alloc, text.as_bytes()) else {
-        return false;
-    };
-    match clauses.get(0) {
-        Some(
-            SourceClause {
-                head: Tree::App(_, args),
-                ..
-            },
-        ) => clauses.len() == 1 && are_variables(args.as_slice(), numbers),
-        _ => false,
-    }
+    let clauses = read_clauses(alloc, text.as_bytes()).ok()?;
+    Some(clauses.len())
 }
 
 #[test]
-fn numbers_variables(rt: HostRuntime) {
-    for (text, numbers) in NUMBERINGS.iter() {
-        assert!(rt; text.len() < 4096);
-        assert!(rt; has_variables(rt.alloc(), text, numbers), "{text}");
-    }
+fn reads_as_many_clauses_as_there_may_be(rt: HostRuntime) {
+    assert_eq!(rt; counted(rt.alloc(), 4096), Some(4096));
+    assert_eq!(rt; counted(rt.alloc(), 4097), None);
 }

@@ -1,0 +1,5 @@
+pub mod Computes
+pub mod Known
+pub mod Made
+pub mod MeaningCode
+pub mod Numbers

@@ -1,0 +1,5 @@
+pub mod Naming
+pub mod Turns
+pub mod Inputs
+pub mod Parts
+pub mod Steps
