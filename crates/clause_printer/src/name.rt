@@ -1,7 +1,7 @@
 //! Prints names.
 
 ghost use Rattle.std.specs.Prelude.{◌≡◌, ◌++◌, OnOk, OnErr, string_bytes, encode_utf8};
-ghost use Rattle.clp_tokens.specs.Tokens as tokens;
+ghost use Rattle.token_model.specs.Names as tokens;
 ghost use Rattle.print_model.specs.Names as spec;
 
 use term_store::NoMemory;

@@ -2,7 +2,7 @@
 use Rattle.std.specs.Prelude.{ℕ, Bool, true, false, ◌&&◌, ◌==◌, if◌then◌else◌, List, [], ◌∷◌, ◌++◌, codes}
 use Rattle.std.specs.Char.{is_ascii_lowercase}
 use Rattle.std.specs.Str.{bytes_eq}
-use Rattle.clp_tokens.specs.Tokens.{is_word}
+use Rattle.token_model.specs.Names.{is_word}
 
 -- each byte is a letter, a digit or `_`
 abbrev pub are_word : List ℕ → Bool

@@ -1,8 +1,5 @@
-pub mod PlainTexts
-pub mod Order
-pub mod Terms
+pub mod Printable
+pub mod Texts
 pub mod Programs
 pub mod Loading
-pub mod Printable
-pub mod Plain
 pub mod Laws

@@ -1,61 +1,43 @@
--- The laws of what is read, loaded and printed.
-use Rattle.std.specs.Prelude.{◌≡◌, ◌≤◌, ℕ, List, map, length, All, Some, Ok}
+-- The laws of printed programs that are read and loaded again.
+use Rattle.std.specs.Prelude.{◌≡◌, ◌≤◌, List, map, length, All, IsUtf8, Some, Ok}
+use Rattle.std.specs.Str.{is_utf8}
 use Rattle.clp_model.specs.Clauses.{Clause}
 use Rattle.clp_model.specs.Predicates.{initial_predicates}
-use Rattle.clause_model.specs.Canonical.{HasRisingRows, IsCanonical, new_clause}
+use Rattle.clause_model.specs.Canonical.{IsCanonical}
 use Rattle.clause_model.specs.Solved.{RowsAreNum}
-use Rattle.clause_model.specs.Load.{load, load_one, made_of, sizes_of}
+use Rattle.clause_model.specs.Load.{load, sizes_of}
+use Rattle.clause_model.specs.Source.{source_of}
+use Rattle.clause_laws.specs.Laws.{AllNum}
 use Rattle.clause_store.specs.declared.source.SourceClause.{SourceClause}
 use Rattle.clause_store.specs.Source.{meaning_of}
-use Rattle.clause_loader.specs.WellFormed.{IsWellFormed}
-use Rattle.print_model.specs.Clauses.{program_text}
-use Rattle.name_laws.specs.Names.{AreOver, EquationsHaveNames, IsPure}
-use Rattle.text_laws.specs.Plain.{is_short_plain, is_ordinary}
+use Rattle.name_laws.specs.Names.{AreOver}
 use Rattle.clp_grammar.specs.Grammar.{program, max_clauses}
-use Rattle.clp_grammar.specs.Readable.{IsReadable, AreReadable, IsPrintable}
+use Rattle.print_model.specs.Clauses.{program_text}
+use Rattle.standing_model.specs.Names.{is_short, is_ordinary}
 
--- heads and body atoms are applications of plain names and not `true` without arguments, each variable has its place,
--- and brackets and clauses are within their limits
-abbrev pub WhatIsReadIsReadable : Type 0
-WhatIsReadIsReadable = (text : List ℕ) (cs : List SourceClause) → program text ≡ Ok cs → AreReadable cs
+-- A canonical clause whose text is read as its source.
+pub record IsPrintable (c : Clause) : Type 0 where
+  pub canonical : IsCanonical c
+  -- no name is too long, and no head or atom is a variable or `true` without arguments
+  pub over : AreOver is_short is_ordinary c
+  -- names are in UTF-8
+  pub texts : AreOver is_utf8 is_ordinary c
+  -- variables of rows that are read are numbers
+  pub nums : RowsAreNum c
 
--- what is read may be loaded: heads and body atoms are applications, and each variable has its sort
-abbrev pub WhatIsReadIsWellFormed : Type 0
-WhatIsReadIsWellFormed = (cs : List SourceClause) → AreReadable cs → All IsWellFormed cs
+-- what is printed is in UTF-8
+abbrev pub PrintedProgramsAreTexts : Type 0
+PrintedProgramsAreTexts = (cs : List Clause) → All IsPrintable cs → IsUtf8 (program_text cs)
 
--- the variables of its rows are Num, and rise
-abbrev pub WhatIsReadHasOrderlyRows : Type 0
-WhatIsReadHasOrderlyRows = (c : SourceClause) → IsReadable c → RowsAreNum (meaning_of c) × HasRisingRows (meaning_of c)
-
--- a clause that was read has no equations to solve, so it has a place or is refused
-abbrev pub WhatIsReadIsLoadedAsNew : Type 0
-WhatIsReadIsLoadedAsNew = (c : SourceClause) → IsReadable c → load_one (meaning_of c) ≡ made_of (new_clause (meaning_of c))
-
--- what a clause that was read is loaded as can be printed, and read again
-abbrev pub WhatIsLoadedIsPrintable : Type 0
-WhatIsLoadedIsPrintable = (c : SourceClause) (d : Clause) → IsReadable c → load_one (meaning_of c) ≡ Ok (Some d) → IsPrintable d
-
--- names and predicates that are read, no rows, and variables that may be any values
-pub record IsPlain (c : Clause) : Type 0 where
-  pub names : AreOver is_short_plain is_ordinary c
-  pub pure : IsPure c
-
--- so are the clauses that were read, and so is what the rules make of such clauses
-abbrev pub WhatIsReadIsPlain : Type 0
-WhatIsReadIsPlain = (c : SourceClause) → IsReadable c → IsPlain (meaning_of c) × EquationsHaveNames is_short_plain (meaning_of c)
-
-abbrev pub PlainClausesArePrintable : Type 0
-PlainClausesArePrintable = (c : Clause) → IsCanonical c → IsPlain c → IsPrintable c
-
--- the text of at most so many clauses is read as just these clauses
+-- the text of at most so many clauses is read as the sources of these clauses
 abbrev pub PrintedProgramsAreReadAgain : Type 0
 PrintedProgramsAreReadAgain =
     (cs : List Clause) → length cs ≤ max_clauses → All IsPrintable cs
-    → (source : List SourceClause) × (program (program_text cs) ≡ Ok source) × AreReadable source × (map meaning_of source ≡ cs)
+    → (source : List SourceClause) × (program (program_text cs) ≡ Ok source) × (map meaning_of source ≡ map source_of cs)
 
 -- the text of clauses within the limits is read, and what is read is loaded as these clauses
 abbrev pub PrintedProgramsAreLoadedAgain : Type 0
 PrintedProgramsAreLoadedAgain =
     (cs : List Clause) → length cs ≤ max_clauses → All IsPrintable cs → sizes_of (map Some cs) ≤ 8388608
-    → (source : List SourceClause) × (program (program_text cs) ≡ Ok source) × AreReadable source
+    → (source : List SourceClause) × (program (program_text cs) ≡ Ok source) × AllNum (map meaning_of source)
     × (load (map meaning_of source) ≡ Ok (record { clauses = map Some cs; predicates = initial_predicates cs }))

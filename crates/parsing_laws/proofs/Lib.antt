@@ -1,0 +1,10 @@
+pub mod Places
+pub mod States
+pub mod Chains
+pub mod Lists
+pub mod Terms
+pub mod Factors
+pub mod Sums
+pub mod Rows
+pub mod Texts
+pub mod Clauses

@@ -1,0 +1,3 @@
+pub mod Places
+pub mod Behind
+pub mod Laws

@@ -1,0 +1,4 @@
+pub mod Next
+pub mod Names
+pub mod Numbers
+pub mod Marks
