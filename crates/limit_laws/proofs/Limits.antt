@@ -9,8 +9,8 @@ use Rattle.clp_model.specs.Canonical.{clause_size}
 use Rattle.clause_model.specs.Load.{sizes_of}
 use Rattle.map_model.specs.State.{Entry, State, entries_where, is_live, live_count, nodes_of, loaded_entry}
 use Rattle.map_model.specs.Rewriting.{changed_at, dead_entry, killed, state_limit}
-use Rattle.limit_laws.specs.Limits.{IsWithinLimits, StartIsWithinLimits, RunKeepsLimits}
-use Rattle.limit_laws.proofs.Rewritings.{IsKept, run_keeps}
+use Rattle.limit_laws.specs.Limits.{IsWithinLimits, StartIsWithinLimits, StepKeepsLimits, RunKeepsLimits}
+use Rattle.limit_laws.proofs.Rewritings.{after_rewrites, IsKept, run_keeps}
 
 -- ---- the nodes of live entries
 
@@ -86,6 +86,9 @@ kept s t r h =
     let b = all_fewer s.entries r.dead in
     let c = h.counted in
     record { few = limits.0; counted = omega (arith, live_is, nodes, a, b, c); small = limits.1 }
+
+pub step_keeps_limits : StepKeepsLimits
+step_keeps_limits s t step h within = kept s t (after_rewrites s t step h) within
 
 pub run_keeps_limits : RunKeepsLimits
 run_keeps_limits s t steps h within = run_keeps IsWithinLimits kept 1 s t steps h within

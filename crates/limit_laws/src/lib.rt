@@ -4,4 +4,4 @@
 
 mod laws;
 
-pub use laws::{accepted_runs_keep_limits, start_is_within_limits};
+pub use laws::{accepted_runs_keep_limits, accepted_steps_keep_limits, start_is_within_limits};

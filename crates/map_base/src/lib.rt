@@ -11,4 +11,4 @@ mod refusal_line;
 
 pub use memory::{MemShelf, MemSink, MemSource};
 pub use outside::{Loading, Shelf, ShelfFault, Sink, SinkFault, Source, SourceFault};
-pub use refusal_line::{refusal_number, refusal_text};
+pub use refusal_line::{limit_text, refusal_number, refusal_text};

@@ -3,22 +3,30 @@
 ghost use Rattle.std.specs.Prelude.{◌≡◌, ◌++◌, OnOk, OnErr, string_bytes, codes, decimal};
 ghost use Rattle.map_base.specs.Refusals as spec;
 
-use case_table::{Cases, LimitWord, RefusalWord};
+use case_table::{Cases, FaultWord, LimitWord, RefusalWord};
 use clp_model::Limit;
+use farkas_check::CheckFault;
 use itoa::Buffer;
 use map_model::Refusal;
 use std::alloc::Global;
 use term_store::NoMemory;
 
-/// The number that the line of a refusal begins with.
+/// The number that the line of a refusal begins with. Takes no memory.
 pub fn refusal_number(refusal: &Refusal) -> u32
     ensures { result ≡ spec.refusal_number refusal.now }
 {
     match refusal {
         Refusal::NoClause(_) => 1,
         Refusal::NoAtom(_) => 2,
+        Refusal::NoRow(_) => 3,
         Refusal::RepeatedPosition(_) => 4,
+        Refusal::LooseVariable(_) => 10,
+        Refusal::Unentailed(_) => 16,
+        Refusal::BadMultipliers(_, _) => 17,
+        Refusal::Satisfiable => 18,
+        Refusal::StillUsed(_) => 20,
         Refusal::NotEqualAtoms(_, _) => 21,
+        Refusal::NotNumber(_) => 22,
         Refusal::Overflow(_) => 23,
         Refusal::TooLarge(_) => 24,
         Refusal::NoMemory => 25,
@@ -32,8 +40,15 @@ fn refusal_case(refusal: &Refusal) -> RefusalWord
     match refusal {
         Refusal::NoClause(_) => RefusalWord::NoClause,
         Refusal::NoAtom(_) => RefusalWord::NoAtom,
+        Refusal::NoRow(_) => RefusalWord::NoRow,
         Refusal::RepeatedPosition(_) => RefusalWord::RepeatedPosition,
+        Refusal::LooseVariable(_) => RefusalWord::LooseVariable,
+        Refusal::Unentailed(_) => RefusalWord::Unentailed,
+        Refusal::BadMultipliers(_, _) => RefusalWord::BadMultipliers,
+        Refusal::Satisfiable => RefusalWord::Satisfiable,
+        Refusal::StillUsed(_) => RefusalWord::StillUsed,
         Refusal::NotEqualAtoms(_, _) => RefusalWord::NotEqualAtoms,
+        Refusal::NotNumber(_) => RefusalWord::NotNumber,
         Refusal::Overflow(_) => RefusalWord::Overflow,
         Refusal::TooLarge(_) => RefusalWord::TooLarge,
         Refusal::NoMemory => RefusalWord::NoMemory,
@@ -56,11 +71,39 @@ fn limit_case(limit: Limit) -> LimitWord
     }
 }
 
+/// The word of a limit. Takes no memory.
+pub fn limit_text(limit: Limit) -> &'static str
+    ensures { result.now ≡ spec.limit_text limit }
+{
+    limit_case(limit).word_of()
+}
+
+/// A fault of a certificate as a case of the table of the words of faults.
+fn check_case(fault: CheckFault) -> FaultWord
+    ensures { result ≡ spec.check_case fault }
+{
+    match fault {
+        CheckFault::Form => FaultWord::Form,
+        CheckFault::Count => FaultWord::Count,
+        CheckFault::Negative => FaultWord::Negative,
+        CheckFault::NotConstant => FaultWord::NotConstant,
+        CheckFault::WrongSign => FaultWord::WrongSign,
+    }
+}
+
 fn push_number(number: u32, into: &mut String) -> Result<(), NoMemory>
     ensures { OnOk result (string_bytes into.new ≡ string_bytes into.old ++ codes " " ++ decimal number) }
 {
     into.push_str(" ")?;
     into.push_str(Buffer::new().format(number))?;
+    Ok(())
+}
+
+fn push_word(word: &str, into: &mut String) -> Result<(), NoMemory>
+    ensures { OnOk result (string_bytes into.new ≡ string_bytes into.old ++ codes " " ++ word.now) }
+{
+    into.push_str(" ")?;
+    into.push_str(word)?;
     Ok(())
 }
 
@@ -70,18 +113,23 @@ fn push_fields(refusal: &Refusal, into: &mut String) -> Result<(), NoMemory>
     match refusal {
         Refusal::NoClause(number)
         | Refusal::NoAtom(number)
+        | Refusal::NoRow(number)
         | Refusal::RepeatedPosition(number)
+        | Refusal::LooseVariable(number)
+        | Refusal::Unentailed(number)
+        | Refusal::StillUsed(number)
+        | Refusal::NotNumber(number)
         | Refusal::Overflow(number) => push_number(*number, into),
+        Refusal::BadMultipliers(place, fault) => {
+            push_number(*place, into)?;
+            push_word(check_case(*fault).word_of(), into)
+        }
         Refusal::NotEqualAtoms(first, second) => {
             push_number(*first, into)?;
             push_number(*second, into)
         }
-        Refusal::TooLarge(limit) => {
-            into.push_str(" ")?;
-            into.push_str(limit_case(*limit).word_of())?;
-            Ok(())
-        }
-        Refusal::NoMemory => Ok(()),
+        Refusal::TooLarge(limit) => push_word(limit_text(*limit), into),
+        Refusal::Satisfiable | Refusal::NoMemory => Ok(()),
     }
 }
 

@@ -3,4 +3,7 @@ pub mod State
 pub mod Rewriting
 pub mod Unfolding
 pub mod Merging
+pub mod Showing
+pub mod Deleting
+pub mod Replacing
 pub mod After

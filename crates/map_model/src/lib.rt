@@ -5,7 +5,9 @@
 #![tactic(auto)]
 
 mod refusal;
+mod shown;
 mod step;
 
 pub use refusal::Refusal;
+pub use shown::Shown;
 pub use step::Step;

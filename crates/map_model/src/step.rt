@@ -1,28 +1,98 @@
 ghost use Rattle.std.specs.Prelude.{◌≡◌, IfOk};
 
+use crate::shown::Shown;
+use lin_row::Row;
 use std::alloc::Global;
 use term_store::NoMemory;
 
-/// One step of a script. Ids are those of clauses, positions count the body atoms of a clause from 1.
-#[derive(Debug, PartialEq, Eq, Drop)]
+/// One step of a script. Ids are those of clauses, positions count the body atoms or the rows of a clause from 1, and
+/// variables are those of the clause.
+#[derive(Drop)]
 pub enum Step {
     /// `unfold C at I`: a clause is replaced by its resolvents, at an atom of its body, with all live clauses.
-    Unfold { id: u32, at: u32 },
+    Unfold {
+        id: u32,
+        at: u32,
+    },
+    /// `delete C false show ..`: a clause is removed whose rows have no common solution.
+    DeleteFalse {
+        id: u32,
+        show: Shown,
+    },
     /// `merge C at I,J`: the second of two equal atoms of a clause is removed.
-    Merge { id: u32, first: u32, second: u32 },
+    Merge {
+        id: u32,
+        first: u32,
+        second: u32,
+    },
+    /// `add C row R show ..`: a row that the rows of a clause entail is put last.
+    Add {
+        id: u32,
+        row: Row,
+        show: Shown,
+    },
+    /// `drop C row I show ..`: a row that the others entail is removed.
+    Drop {
+        id: u32,
+        row: u32,
+        show: Shown,
+    },
+    /// `project C var V`: a variable that is in rows alone is eliminated from them.
+    Project {
+        id: u32,
+        var: u32,
+    },
+    /// `equate C var V to U show ..`: a variable takes the place of one that the rows make equal to it.
+    Equate {
+        id: u32,
+        var: u32,
+        to: u32,
+        show: Shown,
+    },
+}
+
+/// An equal row.
+fn copy_row(alloc: Global, row: &Row) -> Result<Row, NoMemory>
+    ensures { IfOk result (λ copy. copy ≡ row.now) }
+{
+    match row.copy(alloc) {
+        Ok(copy) => Ok(copy),
+        Err(_) => Err(NoMemory),
+    }
 }
 
 impl Step {
     /// An equal step.
-    pub fn copy(&self, _alloc: Global) -> Result<Step, NoMemory>
+    pub fn copy(&self, alloc: Global) -> Result<Step, NoMemory>
         ensures { IfOk result (λ step. step ≡ self.now) }
     {
         Ok(match self {
             Step::Unfold { id, at } => Step::Unfold { id: *id, at: *at },
+            Step::DeleteFalse { id, show } => Step::DeleteFalse {
+                id: *id,
+                show: show.copy(alloc)?,
+            },
             Step::Merge { id, first, second } => Step::Merge {
                 id: *id,
                 first: *first,
                 second: *second,
+            },
+            Step::Add { id, row, show } => Step::Add {
+                id: *id,
+                row: copy_row(alloc, row)?,
+                show: show.copy(alloc)?,
+            },
+            Step::Drop { id, row, show } => Step::Drop {
+                id: *id,
+                row: *row,
+                show: show.copy(alloc)?,
+            },
+            Step::Project { id, var } => Step::Project { id: *id, var: *var },
+            Step::Equate { id, var, to, show } => Step::Equate {
+                id: *id,
+                var: *var,
+                to: *to,
+                show: show.copy(alloc)?,
             },
         })
     }

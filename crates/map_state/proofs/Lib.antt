@@ -6,3 +6,4 @@ pub mod Committing
 pub mod Reserving
 pub mod Loading
 pub mod Defined
+pub mod Placed

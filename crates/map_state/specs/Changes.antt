@@ -1,16 +1,19 @@
 -- What a change makes of a state, and when it may take effect.
-use Rattle.std.specs.Prelude.{ℕ, ◌+◌, ◌-◌, ◌<◌, ◌≤◌, ◌≡◌, true, false, List, [], ◌∷◌, map, length, Option, Some, None, option_map, IsSome}
+use Rattle.std.specs.Prelude.{ℕ, ◌+◌, ◌-◌, ◌<◌, ◌≤◌, ◌≡◌, true, false, List, [], ◌∷◌, map, length, Option, Some, None, option_map, IsSome, Result}
 use Rattle.clp_model.specs.declared.predicate.Pred.{Pred}
 use Rattle.clp_model.specs.Predicates.{predicate_of}
-use Rattle.clause_store.specs.Stored.{clause_in, IsStored}
+use Rattle.clause_store.specs.Stored.{clause_in, raw_in, IsStored}
+use Rattle.map_model.specs.declared.refusal.Refusal.{Refusal}
 use Rattle.map_model.specs.declared.step.Step.{Step}
-use Rattle.map_model.specs.State.{Entry, State, entry_of, if_live, nodes_of, clauses_of, defined_of, is_among}
+use Rattle.map_model.specs.State.{Entry, State, entry_of, if_live, live_at, nodes_of, clauses_of, defined_of, is_among}
 use Rattle.map_model.specs.Rewriting.{new_entry, changed_at, dead_entry, replaced, state_limit}
+use Rattle.map_model.specs.Replacing.{for_entry, in_place}
 use Rattle.map_state.specs.declared.entry.Entry.{Entry as Row}
 use Rattle.map_state.specs.declared.change.Definition.{Definition}
 use Rattle.map_state.specs.declared.change.Made.{Made}
 use Rattle.map_state.specs.declared.change.Change.{Change}
 use Rattle.map_state.specs.declared.change.Ready.{Ready}
+use Rattle.map_state.specs.declared.change.Replacement.{Replacement}
 use Rattle.map_state.specs.Seen.{Trees, Seen, state_of, entries_in, AllStored}
 
 -- the entry of a clause that the step of this number makes
@@ -28,6 +31,14 @@ changed s change = replaced s change.dead (made_entries (length s.steps + 1) cha
 -- the change that puts one clause in the place of another
 abbrev pub replacement : Trees → ℕ → Made → Step → Change
 replacement scratch id made step = record { dead = id ∷ []; made = made ∷ []; defines = None; step = step; scratch = scratch }
+
+-- the state where a clause of these parts, with the mark of the live clause with this id, is in the place of this one
+abbrev pub placed : State → ℕ → Replacement → Result State Refusal
+placed s id r = for_entry id (λ e. in_place s id e (raw_in r.scratch r.raw) r.step) (live_at s id)
+
+-- the change by which a clause goes
+abbrev pub removal : Trees → ℕ → Step → Change
+removal scratch id step = record { dead = id ∷ []; made = []; defines = None; step = step; scratch = scratch }
 
 -- each id is live, and none repeats
 abbrev pub AreLive : List (Option Entry) → List ℕ → Type 0

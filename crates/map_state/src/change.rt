@@ -1,7 +1,7 @@
 ghost use Rattle.std.specs.Prelude.{◌≡◌, []};
 
 use crate::entry::Entry;
-use clause_store::{Clause, Pred};
+use clause_store::{Clause, Pred, RawClause};
 use map_model::Step;
 use sqlite_items::Items;
 use std::alloc::Global;
@@ -39,6 +39,15 @@ impl Change {
             scratch,
         }
     }
+}
+
+/// What takes the place of a clause: the parts of the new one, which are read in the scratch store, and the step as it is
+/// kept in the history.
+#[derive(Drop)]
+pub struct Replacement {
+    pub raw: RawClause,
+    pub step: Step,
+    pub scratch: Store,
 }
 
 /// A predicate and the clause that defines it.

@@ -1,4 +1,4 @@
-ghost use Rattle.std.specs.Prelude.{◌≡◌, ◌⊎◌, Ok, Err, OnOk, OnErr, IfOk, IfErr};
+ghost use Rattle.std.specs.Prelude.{◌≡◌, ◌⊎◌, ◌∷◌, ◌++◌, [], Ok, Err, OnOk, OnErr, IfOk, IfErr};
 ghost use Rattle.map_model.specs.declared.refusal.Refusal.TheVariants.{NoMemory};
 ghost use Rattle.map_model.specs.Rewriting.{within_limits};
 ghost use Rattle.map_state.specs.Seen.{state_of};
@@ -13,6 +13,7 @@ pub fn rewrite(state: &mut State, change: Change) -> Result<Step, Refusal>
     requires { IsChange (state_of state.old) change }
     ensures accepted { OnOk result (within_limits (changed (state_of state.old) change) ≡ Ok (state_of state.new)) }
     ensures filled { IfOk result (λ step. step ≡ change.step) }
+    ensures kept { IfOk result (λ step. (state_of state.new).steps ≡ (state_of state.old).steps ++ step ∷ []) }
     ensures refused { IfErr result (λ e. (e ≡ Refusal.NoMemory) ⊎ (within_limits (changed (state_of state.old) change) ≡ Err e)) }
     ensures unchanged { OnErr result (state_of state.new ≡ state_of state.old) }
 {

@@ -3,7 +3,7 @@ ghost use Rattle.std.specs.Option.{option_copied};
 ghost use Rattle.clause_model.specs.Load.{sizes_of};
 ghost use Rattle.clause_store.specs.Stored.{clause_in, IsStored};
 ghost use Rattle.clause_loader.specs.Loaded.{clauses_in, AreStored};
-ghost use Rattle.map_model.specs.State.{start_state, entry_at, live_ids_of, definition_among, definition_of, defined_of, is_among};
+ghost use Rattle.map_model.specs.State.{start_state, entry_at, live_at, live_ids_of, definition_among, definition_of, defined_of, is_among};
 ghost use Rattle.map_model.specs.Rewriting.{state_limit};
 ghost use Rattle.clp_model.specs.Predicates.{same_predicate};
 ghost use Rattle.map_state.specs.Seen.{state_of, entry_in, definitions_in, AllKept};
@@ -107,6 +107,15 @@ impl State {
             return None;
         }
         self.entries.get((id - 1) as usize)?.as_ref()
+    }
+
+    /// The entry with this id, if it is live.
+    pub fn live_entry(&self, id: u32) -> Option<&Entry>
+        ensures value { option_map (entry_in self.now.store) (option_copied result) ≡ live_at (state_of self.now) id }
+        ensures stored { IfSome result (λ e. IsStored self.now.store e.now.clause) }
+    {
+        let entry = self.fetch(id)?;
+        if entry.live { Some(entry) } else { None }
     }
 
     /// The kept definition of a predicate, the first if there are more.

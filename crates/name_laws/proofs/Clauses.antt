@@ -1,6 +1,6 @@
--- The names and predicates of canonical forms, solved clauses, resolvents and clauses without an atom.
+-- The names and predicates of canonical forms, solved clauses, and of what the rules make.
 use Rattle.std.proofs.Common.{◌≡◌, ℕ, zero, suc, List, [], ◌∷◌, ◌++◌, refl, ap, subst, Bool, true, false}
-use Rattle.std.specs.Prelude.{if◌then◌else◌, not, length, take, drop, slice_index_or, All, Option, Some, None, Result, Ok, Err}
+use Rattle.std.specs.Prelude.{if◌then◌else◌, not, length, take, drop, remove, slice_index_or, All, Option, Some, None, Result, Ok, Err}
 use Rattle.std.proofs.lemmas.List.Elements.{All-nil, All-cons, All-head, All-tail, All-append, All-take, All-drop, All-map}
 use Rattle.clp_model.specs.declared.limit.Limit.{Limit}
 use Rattle.clp_model.specs.declared.predicate.Pred.{Pred}
@@ -8,8 +8,10 @@ use Rattle.clp_model.specs.declared.sort.Sort.{Sort}
 use Rattle.clp_model.specs.declared.tree.Tree.{Tree}
 use Rattle.clp_model.specs.Trees.{mapped, mapped_all}
 use Rattle.clp_model.specs.Canonical.{place_in}
-use Rattle.clp_model.specs.Clauses.{Clause}
+use Rattle.clp_model.specs.Clauses.{Clause, Row}
 use Rattle.clp_meaning.specs.Laws.{without_atom}
+use Rattle.linear_model.specs.Elimination.{elimination}
+use Rattle.replace_model.specs.Rows.{replacing, equated}
 use Rattle.unify_model.specs.Substituting.{Binding, image, substituted}
 use Rattle.unify_model.specs.Unifying.{most_general_unifier}
 use Rattle.clause_model.specs.Variables.{variables_by_first_occurrence}
@@ -17,7 +19,7 @@ use Rattle.clause_model.specs.Canonical.{Refusal, Overflow, all_within, limit_pa
 use Rattle.clause_model.specs.Solved.{typed, typed_variable, typed_equations, number_of, carried, carried_clause, solved_by, solved_clause}
 use Rattle.unfold_model.specs.Resolvent.{past, joined_clause, resolvent}
 use Rattle.name_laws.specs.Names.{HasNames, IsAtomOver, AreOver, EquationsHaveNames}
-use Rattle.name_laws.specs.Laws.{CanonicalFormKeepsNames, NewClauseKeepsNames, SolvedClauseKeepsNames, ResolventKeepsNames, WithoutAtomKeepsNames}
+use Rattle.name_laws.specs.Laws.{CanonicalFormKeepsNames, NewClauseKeepsNames, SolvedClauseKeepsNames, ResolventKeepsNames, WithoutAtomKeepsNames, RowRulesKeepNames}
 use Rattle.name_laws.proofs.Trees.{names_mapped, atom_mapped, atom_substituted}
 use Rattle.name_laws.proofs.Unifiers.{unifier_keeps}
 
@@ -111,6 +113,13 @@ module _ (p : List ℕ → Bool) (q : Pred → Bool) where
     body = All-append (IsAtomOver p q) (take i c.body) (drop (suc i) c.body) (All-take (IsAtomOver p q) i c.body h.body) (All-drop (IsAtomOver p q) (suc i) c.body h.body);
   }
 
+  -- other rows, and a variable in the place of another
+  rows_over : (c : Clause) (rows : List Row) → AreOver p q c → AreOver p q (record c { rows = rows })
+  rows_over c rows h = record { head = h.head; body = h.body }
+
+  equated_over : (c : Clause) (v w : ℕ) → AreOver p q c → AreOver p q (equated c v w)
+  equated_over c v w h = record { head = atom_mapped p q (replacing v w) c.head h.head; body = atoms_mapped (replacing v w) c.body h.body }
+
 pub form_keeps : CanonicalFormKeepsNames
 form_keeps p q c h = form_over p q c h
 
@@ -125,3 +134,11 @@ resolvent_keeps p q c i e d h k r = resolvent_over p q c i e d h k r
 
 pub without_keeps : WithoutAtomKeepsNames
 without_keeps p q c i h = without_over p q c i h
+
+pub row_rules_keep : RowRulesKeepNames
+row_rules_keep p q c h = (
+  (λ r. rows_over p q c (c.rows ++ r ∷ []) h),
+  (λ i. rows_over p q c (remove c.rows i) h),
+  (λ v. rows_over p q c (elimination v c.rows) h),
+  (λ v w. equated_over p q c v w h),
+)

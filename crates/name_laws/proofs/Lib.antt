@@ -1,6 +1,5 @@
 pub mod Trees
 pub mod Unifiers
 pub mod Clauses
-pub mod Pure
 pub mod Loading
 pub mod States

@@ -9,10 +9,9 @@ use Rattle.clp_model.specs.Predicates.{initial_predicates}
 use Rattle.clause_model.specs.Canonical.{Refusal, TooLarge, new_clause}
 use Rattle.clause_model.specs.Solved.{solved_clause}
 use Rattle.clause_model.specs.Load.{load_one, loaded_solved, made_of, any_side_large, Program, Refused, counted, loaded_after, with_predicates, load}
-use Rattle.name_laws.specs.Names.{AreOver, EquationsHaveNames, IsPure, EachPlaced}
-use Rattle.name_laws.specs.Laws.{LoadedClauseKeepsNames, LoadingKeepsNames, LoadedClauseStaysPure, LoadingStaysPure}
+use Rattle.name_laws.specs.Names.{AreOver, EquationsHaveNames, EachPlaced}
+use Rattle.name_laws.specs.Laws.{LoadedClauseKeepsNames, LoadingKeepsNames}
 use Rattle.name_laws.proofs.Clauses.{solved_keeps, new_keeps}
-use Rattle.name_laws.proofs.Pure.{solved_pure, new_pure}
 
 loaded_is : {c d : Clause} → ◌≡◌ {A = Result (Option Clause) Refusal} (Ok (Some c)) (Ok (Some d)) → c ≡ d
 loaded_is {c} e = let back : Result (Option Clause) Refusal → Clause = elim [ Ok None ↦ c | Ok (Some x) ↦ x | Err r ↦ c ] in ap back e
@@ -36,9 +35,6 @@ made_by c d e = by (any_side_large c.equations) e
 
 pub loaded_keeps : LoadedClauseKeepsNames
 loaded_keeps p q c d es h e = let m = made_by c d e in new_keeps p q m.0 d (solved_keeps p q c m.0 es h m.1) m.2
-
-pub loaded_pure : LoadedClauseStaysPure
-loaded_pure c d h e = let m = made_by c d e in new_pure m.0 d (solved_pure c m.0 h m.1) m.2
 
 -- ---- a whole program
 abbrev Placed : (Clause → Type 0) → Option Clause → Type 0
@@ -84,6 +80,3 @@ module _ (S P : Clause → Type 0) (one : (c d : Clause) → S c → load_one c 
 
 pub loading_keeps : LoadingKeepsNames
 loading_keeps p q source program h e = program_placed (λ c. EquationsHaveNames p c × AreOver p q c) (AreOver p q) (λ c d k. loaded_keeps p q c d k.0 k.1) source program h e
-
-pub loading_pure : LoadingStaysPure
-loading_pure source program h e = program_placed IsPure IsPure loaded_pure source program h e

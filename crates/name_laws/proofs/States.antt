@@ -1,35 +1,37 @@
--- What a new clause, a resolvent and a clause without an atom keep, steps and scripts keep of the live clauses.
+-- What the canonical form and the rules keep of clauses, steps and scripts keep of the live clauses.
 use Rattle.std.proofs.Common.{◌≡◌, ℕ, zero, suc, ◌+◌, ◌-◌, List, [], ◌∷◌, ◌++◌, length, refl, ap, subst, Bool, true, false, map}
-use Rattle.std.specs.Prelude.{if◌then◌else◌, nat_lt, nat_le, All, slice_index_or, Option, Some, None, option_map, Result, Ok, Err}
+use Rattle.std.specs.Prelude.{if◌then◌else◌, nat_lt, All, slice_index_or, Option, Some, None, option_map, Result, Ok, Err}
 use Rattle.std.proofs.lemmas.List.Elements.{All-nil, All-cons, All-head, All-tail}
 use Rattle.clp_model.specs.declared.limit.Limit.{Limit}
-use Rattle.clp_model.specs.declared.limit.Limit.TheVariants.{Steps}
 use Rattle.clp_model.specs.declared.predicate.Pred.{Pred}
-use Rattle.clp_model.specs.Clauses.{Clause}
+use Rattle.clp_model.specs.Clauses.{Clause, Row}
 use Rattle.clp_model.proofs.Membership.{Among, first, next, from_among}
 use Rattle.clp_meaning.specs.Laws.{without_atom}
 use Rattle.clause_model.specs.Canonical as clauses
 use Rattle.clause_model.specs.Canonical.{new_clause}
 use Rattle.unfold_model.specs.Resolvent.{resolvent}
+use Rattle.replace_model.specs.Rows.{with_row, without_row, projected, equated}
 use Rattle.map_model.specs.declared.step.Step.{Step}
-use Rattle.map_model.specs.declared.step.Step.TheVariants.{Unfold, Merge}
 use Rattle.map_model.specs.declared.refusal.Refusal.{Refusal}
-use Rattle.map_model.specs.declared.refusal.Refusal.TheVariants.{NoAtom, TooLarge}
-use Rattle.map_model.specs.State.{Entry, State, entries_where, is_live, clauses_of, entry_of, if_live, live_at, loaded_entry, start_state}
-use Rattle.map_model.specs.Rewriting.{Draft, Rewriting, new_entry, put_first, new_entries, changed_at, dead_entry, killed, replaced, state_limit, unless_limit, replaced_by, rewritten, unless_broken}
-use Rattle.map_model.specs.Merging.{in_range, first_broken, merged, merge_of, merge_after}
-use Rattle.map_model.specs.Unfolding.{drafted, resolvent_with, resolvents_from, resolvents, unfold_of, unfold_after}
-use Rattle.map_model.specs.After.{by_rule, after, go_on, run_from, run}
-use Rattle.name_laws.specs.Names.{AreOver, IsPure, EachPlaced, EachLive}
-use Rattle.name_laws.specs.Laws.{StartKeepsNames, StepKeepsNames, RunKeepsNames, StartStaysPure, StepStaysPure, RunStaysPure}
-use Rattle.name_laws.proofs.Clauses.{new_keeps, resolvent_keeps, without_keeps}
-use Rattle.name_laws.proofs.Pure.{new_pure, resolvent_pure, without_pure}
+use Rattle.map_model.specs.State.{Entry, State, entries_where, is_live, clauses_of, entry_of, if_live, loaded_entry, start_state}
+use Rattle.map_model.specs.Rewriting.{Draft, Rewriting, new_entry, put_first, new_entries, changed_at, dead_entry, killed, replaced, state_limit, unless_limit, replaced_by, rewritten}
+use Rattle.map_model.specs.Unfolding.{drafted, resolvent_with, resolvents_from}
+use Rattle.map_model.specs.After.{after, go_on, run_from, run}
+use Rattle.fill_laws.specs.Accepted.{IsRewriting, unfolds, deletes_false, merges, adds, drops, projects, equates}
+use Rattle.fill_laws.proofs.Accepted.{accepted_is}
+use Rattle.name_laws.specs.Names.{AreOver, EachPlaced, EachLive}
+use Rattle.name_laws.specs.Laws.{StartKeepsNames, StepKeepsNames, RunKeepsNames}
+use Rattle.name_laws.proofs.Clauses.{new_keeps, resolvent_keeps, without_keeps, row_rules_keep}
 
 -- what the rules make of clauses that are so is so
 record IsKept (P : Clause → Type 0) : Type 0 where
   new_one : (c d : Clause) → P c → new_clause c ≡ Ok d → P d
   resolved : (c : Clause) (i : ℕ) (e d : Clause) → P c → P e → resolvent c i e ≡ Some d → P d
   shorter : (c : Clause) (i : ℕ) → P c → P (without_atom c i)
+  added : (c : Clause) (r : Row) → P c → P (with_row c r)
+  dropped : (c : Clause) (i : ℕ) → P c → P (without_row c i)
+  eliminated : (c : Clause) (v : ℕ) → P c → P (projected c v)
+  renamed : (c : Clause) (v w : ℕ) → P c → P (equated c v w)
 
 entry_is : {x y : Entry} → ◌≡◌ {A = Option Entry} (Some x) (Some y) → x ≡ y
 entry_is {x} e = let back : Option Entry → Entry = elim [ Some z ↦ z | None ↦ x ] in ap back e
@@ -163,40 +165,17 @@ module _ (P : Clause → Type 0) where
     resolvents_kept id c i place (Some e ∷ es) h k =
         drafts_both (resolvent_with id c i place e) (resolvents_from id c i (suc place) es) (with_kept id c i place e h k.0) (resolvents_kept id c i (suc place) es h k.1)
 
-    unfold_kept : (s t : State) (id at : ℕ) → LiveAre s.entries → unfold_after s id at ≡ Ok t → LiveAre t.entries
-    unfold_kept s t id at h e = by (live_at s id) refl e
-      where
-        within : (x : Entry) → P x.clause → (b : Bool)
-            → (if b then rewritten s (record { dead = id ∷ []; made = resolvents s id x.clause at; defines = None; step = Unfold id at }) else Err (NoAtom at)) ≡ Ok t → LiveAre t.entries
-        within x k true q = rewritten_kept s (record { dead = id ∷ []; made = resolvents s id x.clause at; defines = None; step = Unfold id at }) t h (resolvents_kept id x.clause (at - 1) 1 s.entries k h) q
-        within x k false q = absurd (cc)
-
-        by : (o : Option Entry) → live_at s id ≡ o → unfold_of s id at o ≡ Ok t → LiveAre t.entries
-        by None l q = absurd (cc)
-        by (Some x) l q = within x (live_with s.entries id x h l) (in_range (length x.clause.body) at) q
-
-    merge_kept : (s t : State) (id i j : ℕ) → LiveAre s.entries → merge_after s id i j ≡ Ok t → LiveAre t.entries
-    merge_kept s t id i j h e = by (live_at s id) refl e
-      where
-        within : (x : Entry) → P x.clause → (o : Option Refusal)
-            → unless_broken o (rewritten s (record { dead = id ∷ []; made = merged x id j ∷ []; defines = None; step = Merge id i j })) ≡ Ok t → LiveAre t.entries
-        within x k None q = rewritten_kept s (record { dead = id ∷ []; made = merged x id j ∷ []; defines = None; step = Merge id i j }) t h (kept.shorter x.clause (j - 1) k, tt) q
-        within x k (Some r) q = absurd (cc)
-
-        by : (o : Option Entry) → live_at s id ≡ o → merge_of s id i j o ≡ Ok t → LiveAre t.entries
-        by None l q = absurd (cc)
-        by (Some x) l q = within x (live_with s.entries id x h l) (first_broken x.clause.body i j) q
-
-    rule_kept : (s t : State) (step : Step) → LiveAre s.entries → by_rule s step ≡ Ok t → LiveAre t.entries
-    rule_kept s t (Unfold id at) h e = unfold_kept s t id at h e
-    rule_kept s t (Merge id i j) h e = merge_kept s t id i j h e
+    made_kept : (s : State) (step : Step) (r : Rewriting) → IsRewriting s step r → LiveAre s.entries → AllDrafts r.made
+    made_kept s _ _ (unfolds {id} {at} {e} q r) h = resolvents_kept id e.clause (at - 1) 1 s.entries (live_with s.entries id e h q) h
+    made_kept s _ _ (deletes_false q r) h = tt
+    made_kept s _ _ (merges {id} {i} {j} {e} q r) h = (kept.shorter e.clause (j - 1) (live_with s.entries id e h q), tt)
+    made_kept s _ _ (adds {id} {row} {show} {e} q r k) h = (kept.added e.clause row (live_with s.entries id e h q), tt)
+    made_kept s _ _ (drops {id} {i} {show} {e} q r k) h = (kept.dropped e.clause (i - 1) (live_with s.entries id e h q), tt)
+    made_kept s _ _ (projects {id} {v} {e} q r) h = (kept.eliminated e.clause v (live_with s.entries id e h q), tt)
+    made_kept s _ _ (equates {id} {v} {u} {show} {e} q r k) h = (kept.renamed e.clause v u (live_with s.entries id e h q), tt)
 
     after_kept : (s t : State) (step : Step) → LiveAre s.entries → after s step ≡ Ok t → LiveAre t.entries
-    after_kept s t step h e = by (nat_le 100000 (length s.steps)) e
-      where
-        by : (b : Bool) → (if b then Err (TooLarge Steps) else by_rule s step) ≡ Ok t → LiveAre t.entries
-        by true q = absurd (cc)
-        by false q = rule_kept s t step h q
+    after_kept s t step h e = let w = accepted_is s t step e in rewritten_kept s w.0 t h (made_kept s step w.0 w.1 h) w.2
 
     run_kept : (number : ℕ) (s t : State) (steps : List Step) → LiveAre s.entries → run_from number s steps ≡ Ok t → LiveAre t.entries
     run_kept number s t [] h e = subst (λ (x : State). LiveAre x.entries) (last_is e) h
@@ -223,10 +202,15 @@ module _ (P : Clause → Type 0) where
   start_has clauses predicates h = live_to (map (option_map loaded_entry) clauses) (loaded_live clauses (λ c m. h c (from_among m)))
 
 names_kept : (p : List ℕ → Bool) (q : Pred → Bool) → IsKept (AreOver p q)
-names_kept p q = record { new_one = new_keeps p q; resolved = resolvent_keeps p q; shorter = without_keeps p q }
-
-purity_kept : IsKept IsPure
-purity_kept = record { new_one = new_pure; resolved = resolvent_pure; shorter = without_pure }
+names_kept p q = record {
+  new_one = new_keeps p q;
+  resolved = resolvent_keeps p q;
+  shorter = without_keeps p q;
+  added = λ c r h. (row_rules_keep p q c h).0 r;
+  dropped = λ c i h. (row_rules_keep p q c h).1 i;
+  eliminated = λ c v h. (row_rules_keep p q c h).2 v;
+  renamed = λ c v w h. (row_rules_keep p q c h).3 v w;
+}
 
 pub start_keeps_names : StartKeepsNames
 start_keeps_names p q clauses predicates h = start_has (AreOver p q) clauses predicates h
@@ -236,12 +220,3 @@ step_keeps_names p q s t step h e = step_keeps (AreOver p q) (names_kept p q) s 
 
 pub run_keeps_names : RunKeepsNames
 run_keeps_names p q s t steps h e = run_keeps (AreOver p q) (names_kept p q) s t steps h e
-
-pub start_pure : StartStaysPure
-start_pure clauses predicates h = start_has IsPure clauses predicates h
-
-pub step_pure : StepStaysPure
-step_pure s t step h e = step_keeps IsPure purity_kept s t step h e
-
-pub run_pure : RunStaysPure
-run_pure s t steps h e = run_keeps IsPure purity_kept s t steps h e

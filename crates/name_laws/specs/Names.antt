@@ -1,6 +1,5 @@
--- Of which names and predicates a clause is made, and clauses without rows whose variables all are Any.
-use Rattle.std.specs.Prelude.{◌≡◌, ℕ, Bool, true, List, [], All, Option, Some, Contains}
-use Rattle.clp_model.specs.declared.sort.Sort.TheVariants.{Any}
+-- Of which names and predicates a clause is made.
+use Rattle.std.specs.Prelude.{◌≡◌, ℕ, Bool, true, List, All, Option, Some, Contains}
 use Rattle.clp_model.specs.declared.tree.Tree.{Tree, Var, App', Row_of-Tree, end_of-Tree, more_of-Tree}
 use Rattle.clp_model.specs.declared.predicate.Pred.{Pred}
 use Rattle.clp_model.specs.Trees.{IsApplication}
@@ -32,11 +31,6 @@ pub record AreOver (p : List ℕ → Bool) (q : Pred → Bool) (c : Clause) : Ty
 -- each name in both sides of each equation passes the test
 abbrev pub EquationsHaveNames : (List ℕ → Bool) → Clause → Type 0
 EquationsHaveNames p c = All (λ e. HasNames p e.0 × HasNames p e.1) c.equations
-
--- no rows, and each variable is Any
-pub record IsPure (c : Clause) : Type 0 where
-  pub rows : c.rows ≡ []
-  pub sorts : All (λ sort. sort ≡ Any) c.sorts
 
 -- each clause at these places, some of which may be empty
 abbrev pub EachPlaced : (Clause → Type 0) → List (Option Clause) → Type 0

@@ -25,7 +25,8 @@ use Rattle.clause_model.specs.Canonical.{canonical_form}
 use Rattle.clause_laws.specs.Laws.{HasNoInstance}
 use Rattle.clause_laws.proofs.Rows.{all_each, each_all, renamed_holds}
 use Rattle.clause_laws.proofs.Numbering.{value_mapped, atoms_mapped, canonical_form_keeps_instances}
-use Rattle.rule_laws.specs.Rows.{with_row, without_row, projected, replacing, equated, equation_of, IsReplacement, IsDeletion}
+use Rattle.replace_model.specs.Rows.{with_row, without_row, projected, replacing, equated, equation_of}
+use Rattle.rule_laws.specs.Rows.{IsReplacement, IsDeletion}
 use Rattle.rule_laws.proofs.Unfolding.{same_value_of, same_grounds, all_both, all_front}
 
 -- ---- other rows with the same solutions

@@ -15,7 +15,8 @@ use Rattle.linear_model.specs.Certificates.{Entails, Unsatisfiable}
 use Rattle.clause_laws.specs.Laws.{HasNoInstance}
 use Rattle.rule_laws.specs.Folding.{defined_in, IsFolding}
 use Rattle.rule_laws.specs.Dropping.{IsSubsumption, IsUseless, IsDefinition}
-use Rattle.rule_laws.specs.Rows.{with_row, without_row, projected, equated, equation_of, IsReplacement, IsDeletion}
+use Rattle.replace_model.specs.Rows.{with_row, without_row, projected, equated, equation_of}
+use Rattle.rule_laws.specs.Rows.{IsReplacement, IsDeletion}
 use Rattle.rule_laws.specs.Steps.{IsUnfolding, IsMerge}
 
 abbrev pub UnfoldingUnfolds : Type 0

@@ -1,8 +1,11 @@
-//! The rule by which a clause goes that has an atom twice: `merge` removes the second of two equal atoms. It follows
-//! the definition `merge_after` exactly. That merging keeps what is provable is a law of its own, in another crate.
+//! The rules by which a clause or an atom goes: `merge` removes the second of two equal atoms, and `delete_false` a clause
+//! whose rows have no common solution. Each follows its definition, `merge_after` or `delete_false_after`, exactly. That
+//! these steps keep what is provable is a law of its own, in another crate.
 #![tactic(auto)]
 
+mod deleting;
 mod merging;
 
-pub use map_state::{Refusal, State, Step};
+pub use deleting::delete_false;
+pub use map_state::{Refusal, Shown, State, Step};
 pub use merging::merge;

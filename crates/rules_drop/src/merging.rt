@@ -1,18 +1,14 @@
-ghost use Rattle.std.specs.Prelude.{◌≡◌, ◌⊎◌, ◌<◌, ◌≤◌, Ok, Err, OnOk, OnErr, IfOk, IfErr, IfSome, IfNone, IsTrue, length, option_map};
-ghost use Rattle.std.specs.Option.{option_copied};
+ghost use Rattle.std.specs.Prelude.{◌≡◌, ◌⊎◌, ◌<◌, ◌≤◌, Ok, Err, OnOk, OnErr, IfOk, IfErr, IfNone, length};
 ghost use Rattle.clause_store.specs.Stored.{clause_in, raw_in, atoms_at, IsStored, IsRaw};
 ghost use Rattle.map_model.specs.declared.refusal.Refusal.TheVariants.{NoMemory};
 ghost use Rattle.map_model.specs.SameTree.{same_tree};
-ghost use Rattle.map_model.specs.State.{live_at};
 ghost use Rattle.clp_meaning.specs.Laws.{without_atom};
-ghost use Rattle.map_model.specs.Merging.{first_broken, in_range, atom_of, merge_after};
-ghost use Rattle.map_model.specs.Rewriting.{within_limits};
-ghost use Rattle.map_state.specs.Seen.{state_of, entry_in};
-ghost use Rattle.map_state.specs.Changes.{IsChange, changed, replacement};
+ghost use Rattle.map_model.specs.Merging.{first_broken, atom_of, merge_after};
+ghost use Rattle.map_state.specs.Seen.{state_of};
+ghost use Rattle.map_state.specs.Changes.{placed};
 
-use clause_store::{Clause, RawClause, canonical, copy_clause};
-use map_state::{Change, Entry, Made, Refusal, State, Step, refusal_of, rewrite};
-use sqlite_items::Items;
+use clause_store::{Clause, RawClause, copy_clause};
+use map_state::{Refusal, Replacement, State, Step, in_place, in_range};
 use std::alloc::Global;
 use term_store::{NoMemory, Store};
 
@@ -27,19 +23,18 @@ pub fn merge(state: &mut State, id: u32, first: u32, second: u32) -> Result<Step
     ensures refused { IfErr result (λ e. (e ≡ Refusal.NoMemory) ⊎ (merge_after (state_of state.old) id first second ≡ Err e)) }
     ensures unchanged { OnErr result (state_of state.new ≡ state_of state.old) }
 {
-    let change = prepare(state, id, first, second)?;
-    rewrite(state, change)
+    let replacement = merged(state, id, first, second)?;
+    in_place(state, id, replacement)
 }
 
-/// What a merge changes, or its first broken condition.
-fn prepare(state: &State, id: u32, first: u32, second: u32) -> Result<Change, Refusal>
-    requires { length (state_of state.now).steps < 100000 }
-    ensures accepted { IfOk result (λ change. merge_after (state_of state.now) id first second ≡ within_limits (changed (state_of state.now) change)) }
-    ensures change { IfOk result (λ change. IsChange (state_of state.now) change) }
-    ensures step { IfOk result (λ change. change.step ≡ Step.Merge id first second) }
+/// What takes the clause's place, or the first broken condition.
+fn merged(state: &State, id: u32, first: u32, second: u32) -> Result<Replacement, Refusal>
+    ensures accepted { IfOk result (λ r. merge_after (state_of state.now) id first second ≡ placed (state_of state.now) id r) }
+    ensures raw { IfOk result (λ r. IsRaw r.scratch r.raw) }
+    ensures step { IfOk result (λ r. r.step ≡ Step.Merge id first second) }
     ensures refused { IfErr result (λ e. (e ≡ Refusal.NoMemory) ⊎ (merge_after (state_of state.now) id first second ≡ Err e)) }
 {
-    let Some(entry) = live_at(state, id) else {
+    let Some(entry) = state.live_entry(id) else {
         return Err(Refusal::NoClause(id));
     };
     if let Some(refusal) = first_broken(state.store(), &entry.clause, first, second) {
@@ -49,43 +44,8 @@ fn prepare(state: &State, id: u32, first: u32, second: u32) -> Result<Change, Re
     let mut scratch = Store::new(alloc);
     let place = (second - 1) as usize;
     let raw = without_atom(alloc, &mut scratch, state.store(), &entry.clause, place)?;
-    let clause = match canonical(alloc, &mut scratch, &raw) {
-        Ok(clause) => clause,
-        Err(fault) => return Err(refusal_of(fault)),
-    };
-    let made = Made {
-        clause,
-        mark: entry.mark,
-        parents: Items::from_slice(alloc, &[id])?,
-    };
     let step = Step::Merge { id, first, second };
-    replacing(alloc, scratch, id, made, step)
-}
-
-/// The change that puts one clause in the place of another.
-fn replacing(
-    alloc: Global,
-    scratch: Store,
-    id: u32,
-    made: Made,
-    step: Step,
-) -> Result<Change, Refusal>
-    ensures ok { IfOk result (λ change. change ≡ replacement scratch id made step) }
-    ensures err { IfErr result (λ e. e ≡ Refusal.NoMemory) }
-{
-    let mut change = Change::new(alloc, step, scratch);
-    change.dead.push(id)?;
-    change.made.push(made)?;
-    Ok(change)
-}
-
-/// The entry with this id, if it is live.
-fn live_at(state: &State, id: u32) -> Option<&Entry>
-    ensures value { option_map (entry_in state.now.store) (option_copied result) ≡ live_at (state_of state.now) id }
-    ensures stored { IfSome result (λ e. IsStored state.now.store e.now.clause) }
-{
-    let entry = state.fetch(id)?;
-    if entry.live { Some(entry) } else { None }
+    Ok(Replacement { raw, step, scratch })
 }
 
 /// The first broken condition on the positions, if there is one.
@@ -109,13 +69,6 @@ fn first_broken(store: &Store, clause: &Clause, first: u32, second: u32) -> Opti
         return Some(Refusal::NotEqualAtoms(first, second));
     }
     None
-}
-
-fn in_range(count: usize, position: u32) -> bool
-    ensures value { result ≡ in_range count position }
-    ensures within { IsTrue result → (0 < position) × (position ≤ count) }
-{
-    position > 0 && position as usize <= count
 }
 
 /// Whether the atoms at these positions are equal.

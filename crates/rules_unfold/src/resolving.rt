@@ -1,33 +1,23 @@
 //! The resolvents of a clause with all live clauses.
 
-ghost use Rattle.std.specs.Prelude.{◌≡◌, ◌⊎◌, ◌<◌, ◌+◌, ◌++◌, [], ◌∷◌, ℕ, Ok, Err, OnOk, IfOk, IfErr, IfSome, length, option_map, option_to_list};
-ghost use Rattle.std.specs.Option.{option_copied};
+ghost use Rattle.std.specs.Prelude.{◌≡◌, ◌⊎◌, ◌<◌, ◌+◌, ◌++◌, [], ◌∷◌, ℕ, Ok, Err, OnOk, IfOk, IfErr, length, option_to_list};
 ghost use Rattle.term_store.specs.Trees.{Keeps};
 ghost use Rattle.clause_store.specs.Stored.{clause_in, IsStored};
 ghost use Rattle.unfold_model.specs.Resolvent.{resolvent};
 ghost use Rattle.map_model.specs.declared.refusal.Refusal.TheVariants.{NoMemory};
-ghost use Rattle.map_model.specs.State.{entry_at, live_at};
+ghost use Rattle.map_model.specs.State.{entry_at};
 ghost use Rattle.map_model.specs.Rewriting.{new_entries};
 ghost use Rattle.map_model.specs.Unfolding.{drafted, resolvents_from};
-ghost use Rattle.map_state.specs.Seen.{state_of, entry_in};
+ghost use Rattle.map_state.specs.Seen.{state_of};
 ghost use Rattle.map_state.specs.Changes.{AllMade, made_entries};
 ghost use Rattle.rules_unfold.specs.Entries.{then_entries};
 
 use clause_resolvent::resolvent;
 use clause_store::Clause;
-use map_state::{Entry, Made, Refusal, State, refusal_of};
+use map_state::{Made, Refusal, State, refusal_of};
 use sqlite_items::Items;
 use std::alloc::Global;
 use term_store::Store;
-
-/// The entry with this id, if it is live.
-pub(crate) fn live_at(state: &State, id: u32) -> Option<&Entry>
-    ensures value { option_map (entry_in state.now.store) (option_copied result) ≡ live_at (state_of state.now) id }
-    ensures stored { IfSome result (λ e. IsStored state.now.store e.now.clause) }
-{
-    let entry = state.fetch(id)?;
-    if entry.live { Some(entry) } else { None }
-}
 
 /// The resolvent of the clause with this id and the clause `by`, marked, if there is one.
 fn drafted(
@@ -77,7 +67,7 @@ fn add(
         ≡ then_entries (Ok (made_entries n scratch.old made.old)) (new_entries n (resolvents_from id (clause_in state.now.store c.now) place by (entry_at (state_of state.now) by ∷ [])))) }
     ensures refused { IfErr result (λ f. (f ≡ NoMemory) ⊎ ((n : ℕ) → new_entries n (resolvents_from id (clause_in state.now.store c.now) place by (entry_at (state_of state.now) by ∷ [])) ≡ Err f)) }
 {
-    let Some(entry) = live_at(state, by) else {
+    let Some(entry) = state.live_entry(by) else {
         return Ok(());
     };
     match drafted(

@@ -1,13 +1,12 @@
-ghost use Rattle.std.specs.Prelude.{◌≡◌, ◌⊎◌, ◌<◌, ◌≤◌, ◌∷◌, [], Ok, Err, OnOk, OnErr, IfOk, IfErr, IsTrue, None, length};
+ghost use Rattle.std.specs.Prelude.{◌≡◌, ◌⊎◌, ◌<◌, ◌∷◌, [], Ok, Err, OnOk, OnErr, IfOk, IfErr, None, length};
 ghost use Rattle.map_model.specs.declared.refusal.Refusal.TheVariants.{NoMemory};
-ghost use Rattle.map_model.specs.Merging.{in_range};
 ghost use Rattle.map_model.specs.Unfolding.{unfold_after};
 ghost use Rattle.map_model.specs.Rewriting.{within_limits};
 ghost use Rattle.map_state.specs.Seen.{state_of};
 ghost use Rattle.map_state.specs.Changes.{IsChange, changed};
 
-use crate::resolving::{live_at, resolvents};
-use map_state::{Change, Made, Refusal, State, Step, rewrite};
+use crate::resolving::resolvents;
+use map_state::{Change, Made, Refusal, State, Step, in_range, removed, rewrite};
 use sqlite_items::Items;
 use std::alloc::Global;
 use term_store::Store;
@@ -37,7 +36,7 @@ fn prepare(state: &State, id: u32, at: u32) -> Result<Change, Refusal>
     ensures step { IfOk result (λ change. change.step ≡ Step.Unfold id at) }
     ensures refused { IfErr result (λ e. (e ≡ Refusal.NoMemory) ⊎ (unfold_after (state_of state.now) id at ≡ Err e)) }
 {
-    let Some(entry) = live_at(state, id) else {
+    let Some(entry) = state.live_entry(id) else {
         return Err(Refusal::NoClause(id));
     };
     if !in_range(entry.clause.atoms.len(), at) {
@@ -61,15 +60,7 @@ fn replacing(
     ensures ok { IfOk result (λ change. change ≡ record { dead = id ∷ []; made = made; defines = None; step = step; scratch = scratch }) }
     ensures err { IfErr result (λ e. e ≡ Refusal.NoMemory) }
 {
-    let mut change = Change::new(alloc, step, scratch);
-    change.dead.push(id)?;
+    let mut change = removed(alloc, scratch, id, step)?;
     change.made = made;
     Ok(change)
-}
-
-fn in_range(count: usize, position: u32) -> bool
-    ensures value { result ≡ in_range count position }
-    ensures within { IsTrue result → (0 < position) × (position ≤ count) }
-{
-    position > 0 && position as usize <= count
 }

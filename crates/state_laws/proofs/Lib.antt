@@ -9,6 +9,9 @@ pub mod Rewritten
 pub mod SameTree
 pub mod Unfolded
 pub mod Merged
+pub mod RowRules
+pub mod Replaced
+pub mod Deleted
 pub mod Running
 pub mod Provable
 pub mod Starting

@@ -19,10 +19,12 @@ use Rattle.clause_laws.specs.Laws.{AllStand, AllNum}
 use Rattle.clause_laws.proofs.Loading.{loading_keeps}
 use Rattle.clause_laws.proofs.Rows.{all_each, each_all}
 use Rattle.rule_laws.specs.Steps.{IsHeld}
+use Rattle.map_model.specs.State.{start_state}
 use Rattle.state_laws.specs.WellFormed.{IsWellFormed, clauses_at}
-use Rattle.state_laws.specs.Laws.{LoadedProgramsAreHeld, LoadingKeepsProvability, RunOfLoadedProgramKeepsProvability}
+use Rattle.state_laws.specs.Laws.{LoadedProgramsAreHeld, RunOfLoadedProgramIsKept, LoadingKeepsProvability, RunOfLoadedProgramKeepsProvability}
 use Rattle.state_laws.proofs.Held.{loaded_is_held}
-use Rattle.state_laws.proofs.Starting.{run_keeps}
+use Rattle.state_laws.proofs.Running.{run_keeps_state}
+use Rattle.state_laws.proofs.Starting.{start_is_kept, run_keeps}
 
 -- ---- each place is what its source clause is loaded as
 abbrev AllLoaded : List (Option Clause) → List Clause → Type 0
@@ -120,9 +122,14 @@ all_num : (source : List Clause) → ((c : Clause) → Among c source → IsWell
 all_num [] h = tt
 all_num (c ∷ cs) h = ((h c first).nums, all_num cs (λ d m. h d (next m)))
 
-pub loaded_run_keeps : RunOfLoadedProgramKeepsProvability
-loaded_run_keeps source p steps t formed e h a =
+pub loaded_run_is_kept : RunOfLoadedProgramIsKept
+loaded_run_is_kept source p steps t formed e h rising =
     let held = loaded_program_is_held source p formed e in
-    let run = run_keeps p.clauses p.predicates steps t held.0 held.1 h a in
+    run_keeps_state (start_state p.clauses p.predicates) t steps h rising (start_is_kept p.clauses p.predicates held.0 held.1)
+
+pub loaded_run_keeps : RunOfLoadedProgramKeepsProvability
+loaded_run_keeps source p steps t formed e h rising a =
+    let held = loaded_program_is_held source p formed e in
+    let run = run_keeps p.clauses p.predicates steps t held.0 held.1 h rising a in
     let load = loading_keeps_provable source p e (all_num source (all_each IsWellFormed source formed)) a in
     ((λ q. load.0 (run.0 q)), (λ q. run.1 (load.1 q)))

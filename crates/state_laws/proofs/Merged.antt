@@ -11,23 +11,22 @@ use Rattle.unify_laws.proofs.Solved.{among_cases}
 use Rattle.clause_model.specs.Canonical.{new_clause, canonical_form, IsCanonical}
 use Rattle.rule_laws.specs.Steps.{IsHeld, IsMerge}
 use Rattle.rule_laws.proofs.Merging.{narrows}
-use Rattle.map_model.specs.declared.step.Step.TheVariants.{Merge}
 use Rattle.map_model.specs.declared.refusal.Refusal.{Refusal}
 use Rattle.map_model.specs.declared.refusal.Refusal.TheVariants.{NoAtom, RepeatedPosition, NotEqualAtoms}
-use Rattle.map_model.specs.State.{Entry, State, live_at, base_clauses}
+use Rattle.map_model.specs.State.{Entry, State}
 use Rattle.map_model.specs.SameTree.{same_tree}
-use Rattle.map_model.specs.Rewriting.{Draft, rewritten, unless_broken}
-use Rattle.map_model.specs.Merging.{in_range, atom_of, first_broken, merged, merge_of, merge_after}
+use Rattle.map_model.specs.Rewriting.{Draft}
+use Rattle.map_model.specs.Merging.{in_range, atom_of, first_broken, merged}
 use Rattle.state_laws.specs.KeptState.{marked, live_of, base_of, defined_by, IsKeptState}
 use Rattle.state_laws.proofs.SameTree.{same_tree_is}
 use Rattle.state_laws.proofs.Held.{new_is_held, without_is_held}
 use Rattle.state_laws.proofs.Live.{goes_from}
 use Rattle.state_laws.proofs.Made.{Makes, entry_for}
-use Rattle.state_laws.proofs.Rewritten.{Rewrites, found_live, rewritten_is, is_marked, drafted_by, now_live, was, kept, old, state_after, base_after, entry_held, entry_canonical}
+use Rattle.state_laws.proofs.Rewritten.{Rewrites, is_marked, drafted_by, now_live, was, kept, old, state_after, entry_held, entry_canonical}
 use Rattle.state_laws.proofs.Unfolded.{place_of}
 
 -- ---- the positions of a merge that is not refused
-record Positions (atoms : List (Tree ℕ)) (i j : ℕ) : Type 0 where
+pub record Positions (atoms : List (Tree ℕ)) (i j : ℕ) : Type 0 where
   low : 0 < i
   high : i - 1 < length atoms
   other_low : 0 < j
@@ -41,7 +40,7 @@ no_refusal r e = cc
 different : (m n : ℕ) → nat_eq m n ≡ false → m ≢ n
 different m n h e = let k = eq-eqb m n e in cc
 
-positions : (atoms : List (Tree ℕ)) (i j : ℕ) → first_broken atoms i j ≡ None → Positions atoms i j
+pub positions : (atoms : List (Tree ℕ)) (i j : ℕ) → first_broken atoms i j ≡ None → Positions atoms i j
 positions atoms i j = by (in_range (length atoms) i) refl (in_range (length atoms) j) refl (nat_eq i j) refl (same_tree (atom_of atoms i) (atom_of atoms j)) refl
   where
     by : (a : Bool) → in_range (length atoms) i ≡ a → (b : Bool) → in_range (length atoms) j ≡ b → (c : Bool) → nat_eq i j ≡ c → (d : Bool) → same_tree (atom_of atoms i) (atom_of atoms j) ≡ d
@@ -62,7 +61,7 @@ other_default [] k d e h = absurd (omega arith)
 other_default (x ∷ xs) zero d e h = refl
 other_default (x ∷ xs) (suc k) d e h = other_default xs k d e (omega arith)
 
-has_twice : (c : Clause) (i j : ℕ) → Positions c.body i j → HasTwice c (i - 1) (j - 1)
+pub has_twice : (c : Clause) (i j : ℕ) → Positions c.body i j → HasTwice c (i - 1) (j - 1)
 has_twice c i j p =
     let a = p.low in let b = p.other_low in
     record {
@@ -73,34 +72,7 @@ has_twice c i j p =
     }
 
 -- an accepted merge in a live clause that has an atom twice
-pub record Merges (s t : State) (id i j : ℕ) : Type 0 where
-  pub entry : Entry
-  pub rewrites : Rewrites s t id entry (merged entry id j ∷ [])
-  pub twice : HasTwice entry.clause (i - 1) (j - 1)
-
-pub merges_so : (s t : State) (id i j : ℕ) → merge_after s id i j ≡ Ok t → Merges s t id i j
-merges_so s t id i j h = by (live_at s id) refl h
-  where
-    unbroken : (e : Entry) → live_at s id ≡ Some e → (o : Option Refusal) → first_broken e.clause.body i j ≡ o
-        → unless_broken o (rewritten s (record { dead = id ∷ []; made = merged e id j ∷ []; defines = None; step = Merge id i j })) ≡ Ok t → Merges s t id i j
-    unbroken e q (Some x) r h = absurd (cc)
-    unbroken e q None r h =
-        let l = found_live s id e q in
-        let w = rewritten_is s t (record { dead = id ∷ []; made = merged e id j ∷ []; defines = None; step = Merge id i j }) h in
-        record {
-          entry = e;
-          rewrites = record { here = l.0; is_live = l.1; step = Merge id i j; entries = w.0; made = w.1; is = w.2 };
-          twice = has_twice e.clause i j (positions e.clause.body i j r);
-        }
-
-    by : (o : Option Entry) → live_at s id ≡ o → merge_of s id i j o ≡ Ok t → Merges s t id i j
-    by None q h = absurd (cc)
-    by (Some e) q h = unbroken e q (first_broken e.clause.body i j) refl h
-
-module _ (s t : State) (id i j : ℕ) (u : Merges s t id i j) where
-  abbrev e : Entry
-  e = u.entry
-
+module _ (s t : State) (id i j : ℕ) (e : Entry) (rewrites : Rewrites s t id e (merged e id j ∷ [])) (twice : HasTwice e.clause (i - 1) (j - 1)) where
   abbrev drafts : List Draft
   drafts = merged e id j ∷ []
 
@@ -110,15 +82,12 @@ module _ (s t : State) (id i j : ℕ) (u : Merges s t id i j) where
   abbrev narrower : Marked
   narrower = record { clause = canonical_form less; mark = e.mark }
 
-  pub merge_keeps_base : base_clauses t ≡ base_clauses s
-  merge_keeps_base = base_after s t id e drafts u.rewrites
-
   module _ (k : IsKeptState s) where
     e_held : IsHeld e.clause
-    e_held = entry_held s k e (goes_from e s.entries (id - 1) u.rewrites.here u.rewrites.is_live)
+    e_held = entry_held s k e (goes_from e s.entries (id - 1) rewrites.here rewrites.is_live)
 
     e_canonical : IsCanonical e.clause
-    e_canonical = entry_canonical s k e (goes_from e s.entries (id - 1) u.rewrites.here u.rewrites.is_live)
+    e_canonical = entry_canonical s k e (goes_from e s.entries (id - 1) rewrites.here rewrites.is_live)
 
     -- each new entry is that of the narrower clause
     new_is : (d : Draft) (x : Entry) (n : ℕ) → Among d drafts → Makes n d x → (marked x ≡ narrower) × IsHeld x.clause × IsCanonical x.clause
@@ -131,23 +100,23 @@ module _ (s t : State) (id i j : ℕ) (u : Merges s t id i j) where
 
     made_now : Contains (live_of t) narrower
     made_now =
-        let v = entry_for (length s.steps + 1) drafts u.rewrites.entries u.rewrites.made (merged e id j) first in
-        subst (λ y. Contains (live_of t) y) (new_is (merged e id j) v.0 (length s.steps + 1) first v.2).0 (now_live s t id e drafts u.rewrites v.0 v.1)
+        let v = entry_for (length s.steps + 1) drafts rewrites.entries rewrites.made (merged e id j) first in
+        subst (λ y. Contains (live_of t) y) (new_is (merged e id j) v.0 (length s.steps + 1) first v.2).0 (now_live s t id e drafts rewrites v.0 v.1)
 
     is_merge : IsMerge (live_of s) (live_of t) (marked e) (i - 1) (j - 1)
     is_merge = record {
-      was = was s t id e drafts u.rewrites;
+      was = was s t id e drafts rewrites;
       held = e_held;
-      twice = u.twice;
+      twice = twice;
       now = made_now;
-      kept = kept s t id e drafts u.rewrites;
-      old = λ r l. elim (old s t id e drafts u.rewrites r l) [
+      kept = kept s t id e drafts rewrites;
+      old = λ r l. elim (old s t id e drafts rewrites r l) [
         | inl a ↦ inr a
-        | inr m ↦ let d = drafted_by s t id e drafts u.rewrites m.0 m.1 in inl (m.2 ∙ (new_is d.0 m.0 (length s.steps + 1) d.1 d.2).0)
+        | inr m ↦ let d = drafted_by s t id e drafts rewrites m.0 m.1 in inl (m.2 ∙ (new_is d.0 m.0 (length s.steps + 1) d.1 d.2).0)
       ];
     }
 
     pub merge_keeps_state : IsKeptState t
-    merge_keeps_state = state_after s t id e drafts u.rewrites k
+    merge_keeps_state = state_after s t id e drafts rewrites k
         (narrowing_keeps (setting (defined_by s)) (Contains (base_of s)) (Contains (live_of s)) (Contains (live_of t)) (marked e) narrower (narrows (defined_by s) (live_of s) (live_of t) (marked e) (i - 1) (j - 1) is_merge) k.ranked)
-        (λ x a. let d = drafted_by s t id e drafts u.rewrites x a in let h = new_is d.0 x (length s.steps + 1) d.1 d.2 in (h.1, h.2))
+        (λ x a. let d = drafted_by s t id e drafts rewrites x a in let h = new_is d.0 x (length s.steps + 1) d.1 d.2 in (h.1, h.2))

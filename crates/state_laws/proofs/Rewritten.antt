@@ -16,6 +16,7 @@ use Rattle.map_model.specs.declared.step.Step.{Step}
 use Rattle.map_model.specs.declared.refusal.Refusal.{Refusal}
 use Rattle.map_model.specs.State.{Entry, State, clauses_of, entries_where, is_live, is_loaded, live_entries, live_clauses, base_clauses, if_live, live_at}
 use Rattle.map_model.specs.Rewriting.{Draft, Rewriting, changed_at, dead_entry, new_entries, replaced, state_limit, unless_limit, within_limits, replaced_by, rewritten}
+use Rattle.fill_laws.specs.Accepted.{instead}
 use Rattle.state_laws.specs.KeptState.{marked, unmarked, live_of, base_of, defined_by, IsRanked, IsKeptState}
 use Rattle.state_laws.proofs.Variables.{among_map}
 use Rattle.state_laws.proofs.Live.{live, some_same, not_some, still_live, was_live, goes_from, where_append, where_all, where_none, loaded_stay}
@@ -34,7 +35,7 @@ pub state_is : {E : Type 0} {s t : State} → ◌≡◌ {A = Result State E} (Ok
 state_is {E} {s} h = let out : Result State E → State = elim [ Ok u ↦ u | Err x ↦ s ] in ap out h
 
 -- ---- the entry that is live
-pub found_live : (s : State) (id : ℕ) (e : Entry) → live_at s id ≡ Some e → (slice_index_or s.entries (id - 1) None ≡ Some e) × (e.live ≡ true)
+found_live : (s : State) (id : ℕ) (e : Entry) → live_at s id ≡ Some e → (slice_index_or s.entries (id - 1) None ≡ Some e) × (e.live ≡ true)
 found_live s id e = by (nat_lt 0 id) (slice_index_or s.entries (id - 1) None) refl
   where
     live_one : (f : Entry) (b : Bool) → f.live ≡ b → (if b then Some f else None) ≡ Some e → (◌≡◌ {A = Option Entry} (Some f) (Some e)) × (e.live ≡ true)
@@ -54,12 +55,19 @@ within_is u t h = by (state_limit u) h
     by None h = sym (state_is h)
     by (Some l) h = absurd (cc)
 
-pub rewritten_is : (s t : State) (r : Rewriting) → rewritten s r ≡ Ok t → (es : List Entry) × AllMade (length s.steps + 1) r.made es × (t ≡ replaced s r.dead es r.defines r.step)
+rewritten_is : (s t : State) (r : Rewriting) → rewritten s r ≡ Ok t → (es : List Entry) × AllMade (length s.steps + 1) r.made es × (t ≡ replaced s r.dead es r.defines r.step)
 rewritten_is s t r h = by (new_entries (length s.steps + 1) r.made) refl h
   where
     by : (o : Result (List Entry) Refusal) → new_entries (length s.steps + 1) r.made ≡ o → replaced_by s r o ≡ Ok t → (es : List Entry) × AllMade (length s.steps + 1) r.made es × (t ≡ replaced s r.dead es r.defines r.step)
     by (Err x) q h = absurd (cc)
     by (Ok es) q h = (es, all_made (length s.steps + 1) r.made es q, within_is (replaced s r.dead es r.defines r.step) t h)
+
+-- what an accepted step of the entry's clause has done
+pub rewrites_of : (s t : State) (id : ℕ) (e : Entry) (drafts : List Draft) (step : Step) → live_at s id ≡ Some e → rewritten s (instead id drafts step) ≡ Ok t → Rewrites s t id e drafts
+rewrites_of s t id e drafts step q h =
+    let l = found_live s id e q in
+    let w = rewritten_is s t (instead id drafts step) h in
+    record { here = l.0; is_live = l.1; step = step; entries = w.0; made = w.1; is = w.2 }
 
 later_step : (n : ℕ) → nat_eq (n + 1) 0 ≡ false
 later_step n = grind (arith, nat_tests)

@@ -1,45 +1,81 @@
 -- Accepted steps and runs keep the state and its base.
-use Rattle.std.proofs.Common.{◌≡◌, ℕ, suc, List, [], ◌∷◌, length, refl, ◌∙◌, subst, Bool, true, false}
-use Rattle.std.specs.Prelude.{Result, Ok, Err, nat_le, if◌then◌else◌}
-use Rattle.clp_model.specs.declared.limit.Limit.TheVariants.{Steps}
+use Rattle.std.proofs.Common.{◌≡◌, ℕ, suc, ◌-◌, List, [], ◌∷◌, length, refl, ◌∙◌, subst}
+use Rattle.std.specs.Prelude.{Result, Ok, Err, remove, All}
+use Rattle.std.proofs.lemmas.List.Elements.{All-head, All-tail}
+use Rattle.replace_model.specs.Rows.{with_row, without_row, projected, equated, equation_of}
+use Rattle.map_model.specs.declared.shown.Shown.TheVariants.{Given}
 use Rattle.map_model.specs.declared.step.Step.{Step}
-use Rattle.map_model.specs.declared.step.Step.TheVariants.{Unfold, Merge}
+use Rattle.map_model.specs.declared.step.Step.TheVariants.{Unfold, DeleteFalse, Merge, Add, Drop, Project, Equate}
 use Rattle.map_model.specs.declared.refusal.Refusal.{Refusal}
-use Rattle.map_model.specs.declared.refusal.Refusal.TheVariants.{TooLarge}
 use Rattle.map_model.specs.State.{State, base_clauses}
-use Rattle.map_model.specs.After.{by_rule, after, go_on, run_from}
+use Rattle.map_model.specs.Rewriting.{Rewriting, rewritten}
+use Rattle.map_model.specs.Merging.{merged}
+use Rattle.map_model.specs.Unfolding.{resolvents}
+use Rattle.map_model.specs.Replacing.{row_of, HasRisingRow}
+use Rattle.map_model.specs.After.{after, go_on, run_from}
+use Rattle.fill_laws.specs.Accepted.{in_its_place, IsRewriting, unfolds, deletes_false, merges, adds, drops, projects, equates}
+use Rattle.fill_laws.proofs.Shown.{shown_entailed, false_unsatisfiable}
+use Rattle.fill_laws.proofs.Accepted.{accepted_is}
+use Rattle.rule_laws.proofs.RowRules.{false_rows}
 use Rattle.state_laws.specs.KeptState.{IsKeptState}
 use Rattle.state_laws.specs.Laws.{AcceptedStepKeepsState, AcceptedStepKeepsBase, AcceptedRunKeepsState, AcceptedRunKeepsBase}
-use Rattle.state_laws.proofs.Rewritten.{state_is}
-use Rattle.state_laws.proofs.Unfolded.{unfolds_so, unfold_keeps_base, unfold_keeps_state}
-use Rattle.state_laws.proofs.Merged.{merges_so, merge_keeps_base, merge_keeps_state}
+use Rattle.state_laws.proofs.Rewritten.{state_is, rewrites_of, base_after}
+use Rattle.state_laws.proofs.Unfolded.{place_of, unfold_keeps_state}
+use Rattle.state_laws.proofs.Merged.{positions, has_twice, merge_keeps_state}
+use Rattle.state_laws.proofs.RowRules.{added_may, dropped_may, projected_may, equated_may}
+use Rattle.state_laws.proofs.Replaced.{replaced_keeps_state}
+use Rattle.state_laws.proofs.Deleted.{deleted_keeps_state}
 
--- the state is kept where it was, and the base is the same
-abbrev Keeps : State → State → Type 0
-Keeps s t = (IsKeptState s → IsKeptState t) × (base_clauses t ≡ base_clauses s)
+-- the state is kept where it was, if the rows that are added rise; and the base is the same
+abbrev Keeps : Type 0 → State → State → Type 0
+Keeps Rising s t = (Rising → IsKeptState s → IsKeptState t) × (base_clauses t ≡ base_clauses s)
 
-rule_keeps : (s t : State) (step : Step) → by_rule s step ≡ Ok t → Keeps s t
-rule_keeps s t (Unfold id at) h = let u = unfolds_so s t id at h in ((λ k. unfold_keeps_state s t id at u k), unfold_keeps_base s t id at u)
-rule_keeps s t (Merge id i j) h = let u = merges_so s t id i j h in ((λ k. merge_keeps_state s t id i j u k), merge_keeps_base s t id i j u)
+rule_keeps : (s t : State) (step : Step) (r : Rewriting) → IsRewriting s step r → rewritten s r ≡ Ok t → Keeps (HasRisingRow step) s t
+rule_keeps s t _ _ (unfolds {id} {at} {e} q p) h =
+    let drafts = resolvents s id e.clause at in
+    let w = rewrites_of s t id e drafts (Unfold id at) q h in
+    ((λ _ k. unfold_keeps_state s t id at e w (place_of (length e.clause.body) at p).1 k), base_after s t id e drafts w)
+rule_keeps s t _ _ (deletes_false {id} {show} {e} {c} q p) h =
+    let w = rewrites_of s t id e [] (DeleteFalse id (Given c)) q h in
+    ((λ _ k. deleted_keeps_state s t id e w (false_rows e.clause (false_unsatisfiable e.clause.rows show c p)) k), base_after s t id e [] w)
+rule_keeps s t _ _ (merges {id} {i} {j} {e} q p) h =
+    let drafts = merged e id j ∷ [] in
+    let w = rewrites_of s t id e drafts (Merge id i j) q h in
+    ((λ _ k. merge_keeps_state s t id i j e w (has_twice e.clause i j (positions e.clause.body i j p)) k), base_after s t id e drafts w)
+rule_keeps s t _ _ (adds {id} {row} {show} {e} {c} q p x) h =
+    let d = with_row e.clause row in
+    let w = rewrites_of s t id e (in_its_place id e d) (Add id row (Given c)) q h in
+    let shown = shown_entailed 1 e.clause.rows row show c x in
+    ((λ rising k. replaced_keeps_state s t id e d w (λ held canonical. added_may e.clause held canonical row rising p shown) k), base_after s t id e (in_its_place id e d) w)
+rule_keeps s t _ _ (drops {id} {i} {show} {e} {c} q p x) h =
+    let d = without_row e.clause (i - 1) in
+    let w = rewrites_of s t id e (in_its_place id e d) (Drop id i (Given c)) q h in
+    let shown = shown_entailed 1 (remove e.clause.rows (i - 1)) (row_of e.clause.rows i) show c x in
+    ((λ _ k. replaced_keeps_state s t id e d w (λ held canonical. dropped_may e.clause held canonical i p shown) k), base_after s t id e (in_its_place id e d) w)
+rule_keeps s t _ _ (projects {id} {v} {e} q p) h =
+    let d = projected e.clause v in
+    let w = rewrites_of s t id e (in_its_place id e d) (Project id v) q h in
+    ((λ _ k. replaced_keeps_state s t id e d w (λ held canonical. projected_may e.clause held canonical v p) k), base_after s t id e (in_its_place id e d) w)
+rule_keeps s t _ _ (equates {id} {v} {u} {show} {e} {c} q p x) h =
+    let d = equated e.clause v u in
+    let w = rewrites_of s t id e (in_its_place id e d) (Equate id v u (Given c)) q h in
+    let shown = shown_entailed 1 e.clause.rows (equation_of v u) show c x in
+    ((λ _ k. replaced_keeps_state s t id e d w (λ held canonical. equated_may e.clause held canonical v u p shown) k), base_after s t id e (in_its_place id e d) w)
 
-step_keeps : (s t : State) (step : Step) → after s step ≡ Ok t → Keeps s t
-step_keeps s t step h = by (nat_le 100000 (length s.steps)) h
+step_keeps : (s t : State) (step : Step) → after s step ≡ Ok t → Keeps (HasRisingRow step) s t
+step_keeps s t step h = let w = accepted_is s t step h in rule_keeps s t step w.0 w.1 w.2
+
+run_keeps : (n : ℕ) (s t : State) (steps : List Step) → run_from n s steps ≡ Ok t → Keeps (All HasRisingRow steps) s t
+run_keeps n s t [] h = subst (Keeps (All HasRisingRow []) s) (state_is h) ((λ _ k. k), refl)
+run_keeps n s t (step ∷ steps) h = by (λ u g. run_keeps (suc n) u t steps g) (after s step) refl h
   where
-    by : (b : Bool) → (if b then Err (TooLarge Steps) else by_rule s step) ≡ Ok t → Keeps s t
-    by true h = absurd (cc)
-    by false h = rule_keeps s t step h
-
-onward : (n : ℕ) (s t : State) (step : Step) (steps : List Step) → ((u : State) → run_from (suc n) u steps ≡ Ok t → Keeps u t)
-    → (r : Result State Refusal) → after s step ≡ r → go_on n (λ u. run_from (suc n) u steps) r ≡ Ok t → Keeps s t
-onward n s t step steps again (Ok u) q h =
-    let one = step_keeps s u step q in
-    let more = again u h in
-    ((λ k. more.0 (one.0 k)), more.1 ∙ one.1)
-onward n s t step steps again (Err x) q h = absurd (cc)
-
-run_keeps : (n : ℕ) (s t : State) (steps : List Step) → run_from n s steps ≡ Ok t → Keeps s t
-run_keeps n s t [] h = subst (Keeps s) (state_is h) ((λ k. k), refl)
-run_keeps n s t (step ∷ steps) h = onward n s t step steps (λ u g. run_keeps (suc n) u t steps g) (after s step) refl h
+    by : ((u : State) → run_from (suc n) u steps ≡ Ok t → Keeps (All HasRisingRow steps) u t) → (o : Result State Refusal) → after s step ≡ o → go_on n (λ u. run_from (suc n) u steps) o ≡ Ok t
+        → Keeps (All HasRisingRow (step ∷ steps)) s t
+    by again (Err x) q g = absurd (cc)
+    by again (Ok u) q g =
+        let one = step_keeps s u step q in
+        let more = again u g in
+        ((λ all k. more.0 (All-tail HasRisingRow step steps all) (one.0 (All-head HasRisingRow step steps all) k)), more.1 ∙ one.1)
 
 pub step_keeps_state : AcceptedStepKeepsState
 step_keeps_state s t step h = (step_keeps s t step h).0

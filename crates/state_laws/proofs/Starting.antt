@@ -75,8 +75,8 @@ pub start_is_kept : StartStateIsKept
 start_is_kept = kept_at_start
 
 pub run_keeps : RunKeepsProvability
-run_keeps cs ps steps t held canonical h a =
+run_keeps cs ps steps t held canonical h rising a =
     let s = start_state cs ps in
-    let k = run_keeps_state s t steps h (start_is_kept cs ps held canonical) in
+    let k = run_keeps_state s t steps h rising (start_is_kept cs ps held canonical) in
     let base : base_clauses t ≡ clauses_at cs = run_keeps_base s t steps h ∙ (start_has cs ps).1 in
     subst (λ ds. Provable (live_clauses t) a ↔ Provable ds a) base (live_and_base t k a)

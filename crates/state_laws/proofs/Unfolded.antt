@@ -1,6 +1,6 @@
 -- An accepted unfolding keeps the state.
-use Rattle.std.proofs.Common.{◌≡◌, ℕ, ◌+◌, ◌-◌, ◌<◌, List, [], ◌∷◌, length, refl, sym, ◌∙◌, ap, subst, arith, inl, inr, Bool, true, false}
-use Rattle.std.specs.Prelude.{Option, Some, None, Ok, Err, nat_lt, nat_le, ◌&&◌, if◌then◌else◌, Contains}
+use Rattle.std.proofs.Common.{◌≡◌, ℕ, ◌+◌, ◌-◌, ◌<◌, List, length, refl, sym, ◌∙◌, ap, subst, arith, inl, inr, Bool, true, false}
+use Rattle.std.specs.Prelude.{Some, Ok, nat_lt, nat_le, ◌&&◌, Contains}
 use Rattle.std.proofs.lemmas.Bool.{ltb-true, leb-true}
 use Rattle.clp_model.specs.Clauses.{Clause}
 use Rattle.clp_model.proofs.Membership.{to_among, from_among, among_mapped}
@@ -10,18 +10,16 @@ use Rattle.clause_model.specs.Canonical.{new_clause, canonical_form, IsCanonical
 use Rattle.unfold_model.specs.Resolvent.{resolvent}
 use Rattle.rule_laws.specs.Steps.{IsHeld, resolved, IsUnfolding}
 use Rattle.rule_laws.proofs.Unfolding.{unfolds}
-use Rattle.map_model.specs.declared.step.Step.TheVariants.{Unfold}
-use Rattle.map_model.specs.declared.refusal.Refusal.TheVariants.{NoAtom}
-use Rattle.map_model.specs.State.{Entry, State, live_entries, live_at, base_clauses}
-use Rattle.map_model.specs.Rewriting.{Draft, rewritten}
+use Rattle.map_model.specs.State.{Entry, State, live_entries}
+use Rattle.map_model.specs.Rewriting.{Draft}
 use Rattle.map_model.specs.Merging.{in_range}
-use Rattle.map_model.specs.Unfolding.{resolvents, unfold_of, unfold_after}
+use Rattle.map_model.specs.Unfolding.{resolvents}
 use Rattle.state_laws.specs.KeptState.{marked, live_of, base_of, defined_by, IsKeptState}
 use Rattle.state_laws.proofs.Variables.{among_map}
 use Rattle.state_laws.proofs.Held.{new_is_held, resolvent_is_held}
 use Rattle.state_laws.proofs.Live.{goes_from}
 use Rattle.state_laws.proofs.Made.{Makes, Resolves, resolves, has_draft, entry_for}
-use Rattle.state_laws.proofs.Rewritten.{Rewrites, found_live, rewritten_is, is_marked, drafted_by, now_live, was, kept, old, state_after, base_after, entry_held, marked_held}
+use Rattle.state_laws.proofs.Rewritten.{Rewrites, is_marked, drafted_by, now_live, was, kept, old, state_after, entry_held, marked_held}
 
 both : (a b : Bool) → (a && b) ≡ true → (a ≡ true) × (b ≡ true)
 both true b h = (refl, h)
@@ -36,54 +34,21 @@ place_of count at h =
     (a, omega arith)
 
 -- an accepted unfolding of a live clause, at an atom of its body
-pub record Unfolds (s t : State) (id at : ℕ) : Type 0 where
-  pub entry : Entry
-  pub rewrites : Rewrites s t id entry (resolvents s id entry.clause at)
-  pub place : at - 1 < length entry.clause.body
-
-pub unfolds_so : (s t : State) (id at : ℕ) → unfold_after s id at ≡ Ok t → Unfolds s t id at
-unfolds_so s t id at h = by (live_at s id) refl h
-  where
-    made : (e : Entry) → live_at s id ≡ Some e → in_range (length e.clause.body) at ≡ true → rewritten s (record { dead = id ∷ []; made = resolvents s id e.clause at; defines = None; step = Unfold id at }) ≡ Ok t → Unfolds s t id at
-    made e q r h =
-        let l = found_live s id e q in
-        let w = rewritten_is s t (record { dead = id ∷ []; made = resolvents s id e.clause at; defines = None; step = Unfold id at }) h in
-        record {
-          entry = e;
-          rewrites = record { here = l.0; is_live = l.1; step = Unfold id at; entries = w.0; made = w.1; is = w.2 };
-          place = (place_of (length e.clause.body) at r).1;
-        }
-
-    within : (e : Entry) → live_at s id ≡ Some e → (b : Bool) → in_range (length e.clause.body) at ≡ b
-        → (if b then rewritten s (record { dead = id ∷ []; made = resolvents s id e.clause at; defines = None; step = Unfold id at }) else Err (NoAtom at)) ≡ Ok t → Unfolds s t id at
-    within e q true r h = made e q r h
-    within e q false r h = absurd (cc)
-
-    by : (o : Option Entry) → live_at s id ≡ o → unfold_of s id at o ≡ Ok t → Unfolds s t id at
-    by None q h = absurd (cc)
-    by (Some e) q h = within e q (in_range (length e.clause.body) at) refl h
-
-module _ (s t : State) (id at : ℕ) (u : Unfolds s t id at) where
-  abbrev e : Entry
-  e = u.entry
-
+module _ (s t : State) (id at : ℕ) (e : Entry) (rewrites : Rewrites s t id e (resolvents s id e.clause at)) (place : at - 1 < length e.clause.body) where
   abbrev i : ℕ
   i = at - 1
 
   abbrev drafts : List Draft
   drafts = resolvents s id e.clause at
 
-  pub unfold_keeps_base : base_clauses t ≡ base_clauses s
-  unfold_keeps_base = base_after s t id e drafts u.rewrites
-
   module _ (k : IsKeptState s) where
     e_held : IsHeld e.clause
-    e_held = entry_held s k e (goes_from e s.entries (id - 1) u.rewrites.here u.rewrites.is_live)
+    e_held = entry_held s k e (goes_from e s.entries (id - 1) rewrites.here rewrites.is_live)
 
     -- what becomes of a draft
     drafted_held : (d : Draft) (x : Entry) → Resolves id e.clause i s.entries d → new_clause d.clause ≡ Ok x.clause → (x.clause ≡ canonical_form d.clause) × IsHeld x.clause × IsCanonical x.clause
     drafted_held d x r q =
-        let h = resolvent_is_held e.clause r.by.clause i u.place e_held (entry_held s k r.by r.is_live) d.clause r.is in
+        let h = resolvent_is_held e.clause r.by.clause i place e_held (entry_held s k r.by r.is_live) d.clause r.is in
         new_is_held d.clause x.clause h.0 h.1 q
 
     new_resolved : (d : Draft) (x : Entry) (n : ℕ) → Resolves id e.clause i s.entries d → Makes n d x → marked x ≡ resolved d.clause
@@ -94,27 +59,27 @@ module _ (s t : State) (id at : ℕ) (u : Unfolds s t id at) where
         let f = among_map marked (live_entries s) x (to_among (live_of s) x l) in
         let q' : resolvent e.clause i f.0.clause ≡ Some d = ap (λ (y : Marked). resolvent e.clause i y.clause) (sym f.2) ∙ q in
         let w = has_draft id e.clause i 1 s.entries f.0 d f.1 q' in
-        let v = entry_for (length s.steps + 1) drafts u.rewrites.entries u.rewrites.made w.0 w.1 in
+        let v = entry_for (length s.steps + 1) drafts rewrites.entries rewrites.made w.0 w.1 in
         let r = resolves id e.clause i 1 s.entries w.0 w.1 in
-        subst (λ y. Contains (live_of t) y) (new_resolved w.0 v.0 (length s.steps + 1) r v.2 ∙ ap resolved w.2) (now_live s t id e drafts u.rewrites v.0 v.1)
+        subst (λ y. Contains (live_of t) y) (new_resolved w.0 v.0 (length s.steps + 1) r v.2 ∙ ap resolved w.2) (now_live s t id e drafts rewrites v.0 v.1)
 
     is_unfolding : IsUnfolding (live_of s) (live_of t) (marked e) i
     is_unfolding = record {
-      was = was s t id e drafts u.rewrites;
-      place = u.place;
+      was = was s t id e drafts rewrites;
+      place = place;
       held = marked_held s k;
-      kept = kept s t id e drafts u.rewrites;
+      kept = kept s t id e drafts rewrites;
       made = made_now;
-      old = λ r l. elim (old s t id e drafts u.rewrites r l) [
+      old = λ r l. elim (old s t id e drafts rewrites r l) [
         | inl a ↦ inl a
         | inr m ↦
-            let d = drafted_by s t id e drafts u.rewrites m.0 m.1 in
+            let d = drafted_by s t id e drafts rewrites m.0 m.1 in
             let x = resolves id e.clause i 1 s.entries d.0 d.1 in
             inr (marked x.by, d.0.clause, from_among (among_mapped marked x.is_live), x.is, m.2 ∙ new_resolved d.0 m.0 (length s.steps + 1) x d.2)
       ];
     }
 
     pub unfold_keeps_state : IsKeptState t
-    unfold_keeps_state = state_after s t id e drafts u.rewrites k
+    unfold_keeps_state = state_after s t id e drafts rewrites k
         (unfolding_keeps (setting (defined_by s)) (Contains (base_of s)) (Contains (live_of s)) (Contains (live_of t)) (marked e) (unfolds (defined_by s) (live_of s) (live_of t) (marked e) i is_unfolding) k.ranked)
-        (λ x a. let d = drafted_by s t id e drafts u.rewrites x a in let h = drafted_held d.0 x (resolves id e.clause i 1 s.entries d.0 d.1) d.2.clause in (h.1, h.2))
+        (λ x a. let d = drafted_by s t id e drafts rewrites x a in let h = drafted_held d.0 x (resolves id e.clause i 1 s.entries d.0 d.1) d.2.clause in (h.1, h.2))

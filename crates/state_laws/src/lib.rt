@@ -3,7 +3,7 @@
 //! contract of an empty function.
 #![tactic(auto)]
 
-ghost use Rattle.state_laws.specs.Laws.{LoadedClausesAreHeld, LoadedProgramsAreHeld, StartStateIsKept, StartStateHasItsClauses, AcceptedStepKeepsState, AcceptedStepKeepsBase, AcceptedRunKeepsState, AcceptedRunKeepsBase, LiveAndBaseProveTheSame, RunKeepsProvability, LoadingKeepsProvability, RunOfLoadedProgramKeepsProvability};
+ghost use Rattle.state_laws.specs.Laws.{LoadedClausesAreHeld, LoadedProgramsAreHeld, StartStateIsKept, StartStateHasItsClauses, AcceptedStepKeepsState, AcceptedStepKeepsBase, AcceptedRunKeepsState, AcceptedRunKeepsBase, RunOfLoadedProgramIsKept, LiveAndBaseProveTheSame, RunKeepsProvability, LoadingKeepsProvability, RunOfLoadedProgramKeepsProvability};
 
 /// A well-formed source clause is loaded as a clause without equations, whose head and atoms are applications, whose
 /// variables have their places, and whose rows have Num variables alone; and this clause is canonical. So is each
@@ -19,16 +19,18 @@ pub fn start_state_is_kept()
     ensures clauses { StartStateHasItsClauses }
 {}
 
-/// An accepted step keeps the rank, and the base.
+/// An accepted step keeps the rank, where the variables of a row that it adds rise; and the base.
 pub fn accepted_step_keeps_state()
     ensures state { AcceptedStepKeepsState }
     ensures base { AcceptedStepKeepsBase }
 {}
 
-/// An accepted run keeps the rank, and the base.
+/// So does an accepted run of such steps; and after one from a loaded program the live clauses are ranked, held and
+/// canonical.
 pub fn accepted_run_keeps_state()
     ensures state { AcceptedRunKeepsState }
     ensures base { AcceptedRunKeepsBase }
+    ensures loaded { RunOfLoadedProgramIsKept }
 {}
 
 /// In such a state the live clauses and the base prove the same.
