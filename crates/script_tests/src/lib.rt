@@ -1,14 +1,20 @@
-//! Tests of scripts as text, of the lines of refusals and of tables of words, through their public calls.
+//! Tests of scripts as text, through their public calls: what is read of scripts, of lines and of rows within a text,
+//! their first faults, and what is printed. There is no other code here: a test in the crate that it tests has that
+//! whole crate proved once more.
 #![tactic(auto)]
 
+#[cfg(test)]
+mod faults;
+#[cfg(test)]
+mod limit;
+#[cfg(test)]
+mod lines;
 #[cfg(test)]
 mod printed;
 #[cfg(test)]
 mod read;
 #[cfg(test)]
-mod refusals;
-#[cfg(test)]
-mod words;
+mod rows;
 
 /// Nothing: a library needs an item.
 pub fn nothing() {}

@@ -1,137 +1,196 @@
-//! Scripts that are read, and their first faults.
+//! Scripts that are read, and printed again: numbers, rows and certificates come out in the one form that they have.
 
-use clp_tokens::{Kind, ReadError};
-use map_model::Step;
-use script_text::read_steps;
-use sqlite_items::Items;
-use std::alloc::{AllocError, Global};
+use script_text::{print_script, read_script};
+use std::alloc::Global;
 use std::test::Fail;
 
-/// A text, the kind of its first fault, and how many bytes there are from it on.
-type Case = (&'static str, Kind, usize);
+/// What follows the version line, and the lines that its steps are printed as.
+type Case = (&'static str, &'static str);
 
-static FAULTS: [Case; 31] = [
-    (" Map script 1.", Kind::NoVersion, 13),
-    ("map 1.", Kind::NoVersion, 2),
-    ("map ", Kind::UnexpectedEnd, 0),
-    ("map =", Kind::BadToken, 1),
-    ("map script one.", Kind::Unexpected, 4),
-    ("map script 2.", Kind::Version, 2),
-    ("map script 9223372036854775808.", Kind::NumberTooLarge, 20),
-    ("map script 1", Kind::UnexpectedEnd, 0),
-    ("map script 1.merge 1 at 1,2.", Kind::BadToken, 16),
-    ("map script 1. 7", Kind::Unexpected, 1),
-    ("map script 1. at 1", Kind::Unexpected, 4),
-    ("map script 1. unfolds 1 at 1.", Kind::Unexpected, 15),
-    ("map script 1. merge x", Kind::Unexpected, 1),
-    ("map script 1. merge 4294967296 at", Kind::BadNumber, 13),
+static CASES: [Case; 38] = [
+    ("", ""),
+    ("merge 1 at 2,3.", "merge 1 at 2,3.\n"),
     (
-        "map script 1. merge 9223372036854775808 at",
-        Kind::NumberTooLarge,
-        22,
+        "merge 007 at\n2 , 3 .\r\n\tmerge 4294967295 at 0,1.",
+        "merge 7 at 2,3.\nmerge 4294967295 at 0,1.\n",
     ),
-    ("map script 1. merge 1 1,2.", Kind::Unexpected, 4),
-    ("map script 1. merge 1 at 1 2.", Kind::Unexpected, 2),
-    ("map script 1. merge 1 at 1.", Kind::Unexpected, 1),
-    ("map script 1. merge 1 at 1,V.", Kind::Unexpected, 2),
-    ("map script 1. merge 1 at 1,2 3.", Kind::Unexpected, 2),
-    ("map script 1. merge 1 at 1,2", Kind::UnexpectedEnd, 0),
-    ("map script 1. merge 1 at 1,2. %", Kind::BadToken, 1),
-    ("map script 1. unfold 1 at 4294967296.", Kind::BadNumber, 11),
-    ("map script 1. unfold at 1.", Kind::Unexpected, 5),
-    ("map script 1. unfold 1 at 1,2.", Kind::Unexpected, 3),
-    ("map script 1. unfold 1 at 1", Kind::UnexpectedEnd, 0),
-    ("map script 1. unfold 1 merge", Kind::Unexpected, 5),
-    ("", Kind::UnexpectedEnd, 0),
-    (" \n", Kind::UnexpectedEnd, 0),
-    ("map scripts 1.", Kind::NoVersion, 10),
-    ("map script 01x.", Kind::BadToken, 4),
+    (
+        "unfold 12 at 003 . unfold\n0 at 4294967295.\n",
+        "unfold 12 at 3.\nunfold 0 at 4294967295.\n",
+    ),
+    ("unfold%\n1/* at */at/**/2.%", "unfold 1 at 2.\n"),
+    // what shows a row
+    ("delete 3 false show find.", "delete 3 false show find.\n"),
+    ("delete 3 false show [1].", "delete 3 false show [1].\n"),
+    (
+        "delete 3 false show[ 007 , - 5,-0 ] .",
+        "delete 3 false show [7,-5,0].\n",
+    ),
+    (
+        "delete 3 false show [72057594037927935,-72057594037927935].",
+        "delete 3 false show [72057594037927935,-72057594037927935].\n",
+    ),
+    (
+        "drop 1 row 2 show [1,2] / [3,-4].",
+        "drop 1 row 2 show [1,2]/[3,-4].\n",
+    ),
+    (
+        "drop 1 row 2 show [-1]/[0].",
+        "drop 1 row 2 show [-1]/[0].\n",
+    ),
+    (
+        "drop 4294967295 row 0 show find.",
+        "drop 4294967295 row 0 show find.\n",
+    ),
+    ("project 1 var 2.", "project 1 var 2.\n"),
+    (
+        "project 4294967295 var 4294967294.",
+        "project 4294967295 var 4294967294.\n",
+    ),
+    (
+        "equate 1 var 2 to 3 show find.",
+        "equate 1 var 2 to 3 show find.\n",
+    ),
+    (
+        "equate 1 var 3 to 2 show [1]/[2].",
+        "equate 1 var 3 to 2 show [1]/[2].\n",
+    ),
+    // the relations of rows
+    (
+        "add 1 row V1 =< 3 show find.",
+        "add 1 row V1 - 3 =< 0 show find.\n",
+    ),
+    (
+        "add 1 row V1 < 3 show find.",
+        "add 1 row V1 - 3 < 0 show find.\n",
+    ),
+    (
+        "add 1 row V1 >= 3 show find.",
+        "add 1 row -V1 + 3 =< 0 show find.\n",
+    ),
+    (
+        "add 1 row V1 > 3 show find.",
+        "add 1 row -V1 + 3 < 0 show find.\n",
+    ),
+    (
+        "add 1 row V1 = V2 show find.",
+        "add 1 row V1 - V2 = 0 show find.\n",
+    ),
+    (
+        "add 1 row V2 =:= V1 show find.",
+        "add 1 row V1 - V2 = 0 show find.\n",
+    ),
+    // their normal form
+    (
+        "add 1 row 2*V2 >= 4*V1 + 6 show [1].",
+        "add 1 row 2*V1 - V2 + 3 =< 0 show [1].\n",
+    ),
+    (
+        "add 1 row -V1/3 < 1/2 show find.",
+        "add 1 row -2*V1 - 3 < 0 show find.\n",
+    ),
+    (
+        "add 1 row (V1 + V2)*2 =< 3*(V1) show find.",
+        "add 1 row -V1 + 2*V2 =< 0 show find.\n",
+    ),
+    (
+        "add 1 row V2 + V1 = V2 show find.",
+        "add 1 row V1 = 0 show find.\n",
+    ),
+    (
+        "add 1 row V1 = V1 show find.",
+        "add 1 row 0 = 0 show find.\n",
+    ),
+    (
+        "add 1 row 1 = 2 show find.",
+        "add 1 row -1 = 0 show find.\n",
+    ),
+    (
+        "add 1 row 2 =< 1 show find.",
+        "add 1 row 1 =< 0 show find.\n",
+    ),
+    // variables by their own numbers
+    (
+        "add 1 row V4294967295 =< V10 + V9 show find.",
+        "add 1 row -V9 - V10 + V4294967295 =< 0 show find.\n",
+    ),
+    (
+        "add 1 row V3 = V7 + V3 show [0,1].",
+        "add 1 row V7 = 0 show [0,1].\n",
+    ),
+    // white and comments within a row
+    (
+        "add 1 row%\nV1/* - 3 */=<\n3 show find.",
+        "add 1 row V1 - 3 =< 0 show find.\n",
+    ),
+    // steps keep their order
+    (
+        "project 2 var 1. merge 1 at 1,2. unfold 1 at 1.",
+        "project 2 var 1.\nmerge 1 at 1,2.\nunfold 1 at 1.\n",
+    ),
+    (
+        "drop 2 row 1 show find. add 1 row V1 = 1 show find. drop 3 row 1 show [1].",
+        "drop 2 row 1 show find.\nadd 1 row V1 - 1 = 0 show find.\ndrop 3 row 1 show [1].\n",
+    ),
+    // the variables of a row are its own
+    (
+        "add 1 row V2 = 1 show find. add 1 row V1 = 1 show find.",
+        "add 1 row V2 - 1 = 0 show find.\nadd 1 row V1 - 1 = 0 show find.\n",
+    ),
+    ("% a script may end in a comment", ""),
+    ("/* and\nin such a one */", ""),
+    (" \t\r\n", ""),
 ];
 
-/// What follows the version line and one step less than a script may have.
-static LIMITS: [Case; 3] = [
-    ("unfold 1 at 1. unfold x", Kind::TooMany, 8),
-    ("merge 1 at 1,2. at", Kind::Unexpected, 2),
-    ("merge 1 at 1,2. %", Kind::BadToken, 1),
-];
-
-fn first_fault(found: Result<Items<Step>, ReadError>) -> Option<(Kind, usize)> {
-    match found {
-        Err(ReadError::Fault(fault)) => Some((fault.kind, fault.left)),
-        _ => None,
+/// Whether a script of this version line and these steps is printed so.
+fn prints(alloc: Global, version: &str, case: &Case) -> Result<bool, Fail> {
+    let mut script = String::from_str(alloc, version)?;
+    script.push_str(case.0)?;
+    let mut wanted = String::from_str(alloc, "map script 1.\n")?;
+    wanted.push_str(case.1)?;
+    if script.len() > 1_000_000 {
+        return Ok(false);
     }
-}
-
-fn fault_in(alloc: Global, text: &str) -> Option<(Kind, usize)> {
-    first_fault(read_steps(alloc, text.as_bytes()))
-}
-
-/// The fault of a script that ends so, after one step less than a script may have.
-fn fault_past_all(alloc: Global, end: &str) -> Result<Option<(Kind, usize)>, AllocError> {
-    let mut text = String::from_str(alloc, "map script 1.")?;
-    text.push_str(" unfold 1 at 1.".repeat(alloc, 99_999)?.as_str())?;
-    text.push_str(" ")?;
-    text.push_str(end)?;
-    Ok(fault_in(alloc, text.as_str()))
+    let steps = read_script(alloc, script.as_bytes())?;
+    let mut text = String::new(alloc);
+    print_script(steps.as_slice(), &mut text)?;
+    Ok(text.as_str() == wanted.as_str())
 }
 
 #[test]
-fn finds_the_first_fault(rt: HostRuntime) -> Result<(), Fail> {
-    for (text, kind, left) in FAULTS.iter() {
-        assert_eq!(rt; fault_in(rt.alloc(), text), Some((*kind, *left)), "{text}");
+fn reads_scripts(rt: HostRuntime) -> Result<(), Fail> {
+    for case in &CASES {
+        assert!(rt; prints(rt.alloc(), "map script 1. ", case)?, "{}", case.0);
     }
     Ok(())
 }
 
 #[test]
-fn finds_the_first_fault_past_the_limit(rt: HostRuntime) -> Result<(), Fail> {
-    for (text, kind, left) in LIMITS.iter() {
-        assert_eq!(rt;
-            fault_past_all(rt.alloc(), text)?,
-            Some((*kind, *left)),
-            "{text}"
+fn reads_what_it_printed(rt: HostRuntime) -> Result<(), Fail> {
+    for case in &CASES {
+        let printed = (case.1, case.1);
+        assert!(rt;
+            prints(rt.alloc(), "map script 1.\n", &printed)?,
+            "{}",
+            case.1
         );
     }
     Ok(())
 }
 
-/// A script, and its steps.
-static SCRIPTS: [(&str, &[Step]); 3] = [
-    ("map script 1.", &[]),
-    (
-        "\tmap\r\nscript 0001 .\nmerge 007 at\n2 , 3 . merge 4294967295 at 0,1.",
-        &[
-            Step::Merge {
-                id: 7,
-                first: 2,
-                second: 3,
-            },
-            Step::Merge {
-                id: 4_294_967_295,
-                first: 0,
-                second: 1,
-            },
-        ],
-    ),
-    (
-        "map script 01.\nunfold 12 at 003 . unfold\n0 at 4294967295.\n",
-        &[
-            Step::Unfold { id: 12, at: 3 },
-            Step::Unfold {
-                id: 0,
-                at: 4_294_967_295,
-            },
-        ],
-    ),
+static VERSIONS: [&str; 5] = [
+    "map script 1.\n",
+    "map script 1 . ",
+    "\tmap\r\nscript 0001.%\n",
+    "% first\nmap/* the */script/* version */1.\n",
+    "map script 1.%\n",
 ];
 
 #[test]
-fn reads_steps(rt: HostRuntime) -> Result<(), Fail> {
-    for (script, wanted) in SCRIPTS.iter() {
-        match read_steps(rt.alloc(), script.as_bytes()) {
-            Ok(steps) => assert!(rt; *wanted == steps.as_slice(), "{script}"),
-            Err(_) => assert!(rt; false, "{script}"),
-        }
+fn reads_the_version(rt: HostRuntime) -> Result<(), Fail> {
+    let case = ("merge 1 at 1,2.", "merge 1 at 1,2.\n");
+    for version in &VERSIONS {
+        assert!(rt; prints(rt.alloc(), version, &case)?, "{version}");
     }
     Ok(())
 }

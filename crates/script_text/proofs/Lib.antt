@@ -1,3 +1,1 @@
-pub mod Turns
-pub mod Steps
-pub mod Printed
+pub mod Weights

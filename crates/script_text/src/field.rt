@@ -1,62 +1,101 @@
-//! The words and the numbers of a script.
+//! The words, marks and numbers of a script.
 
-ghost use Rattle.std.specs.Prelude.{◌≡◌, ◌≤◌, IfOk};
-ghost use Rattle.clp_tokens.specs.Parsers.{ReadsExactly};
-ghost use Rattle.script_text.specs.Fields as spec;
+ghost use Rattle.std.specs.Prelude.{◌≡◌, ◌≤◌, IfOk, true};
+ghost use Rattle.token_model.specs.Remaining as token;
+ghost use Rattle.token_model.specs.Parsers.{ReadsExactly};
+ghost use Rattle.clp_parser.specs.Readable.{is_whole};
+ghost use Rattle.script_grammar.specs.Fields as spec;
 
-use clp_tokens::{Cursor, Fault, Kind, TokenKind};
+use case_table::{Cases, RuleWord};
+use clp_parser::{MAX_OPEN, Reader};
+use token_model::{Fault, Kind, Lexeme};
 
-/// The greatest id and the greatest position.
+/// The greatest id, position and number of a variable.
 const MAX_FIELD: u64 = 4_294_967_295;
 
-/// The fault of the next token, or one of this kind where it has none of its own.
-#[tactic(auto, unfolding(crate::specs::Fields::refusal_as, clp_tokens::specs::Cursor::refusal, clp_tokens::specs::Cursor::fault_at))]
-fn refusal_as(cursor: &Cursor<'_>, other: Kind) -> Fault
-    ensures { result ≡ spec.refusal_as other cursor.now }
+/// Why no rule goes on here.
+#[tactic(auto, unfolding(clp_grammar::specs::Input::refusal))]
+pub fn refusal(reader: &Reader<'_>) -> Fault
+    ensures { result ≡ token.refusal reader.now.remaining }
 {
-    let own = cursor.refusal();
+    reader.refusal(MAX_OPEN)
+}
+
+/// Passes such a token.
+#[tactic(auto, unfolding(token_model::specs::Remaining::expect))]
+pub fn expect(reader: &mut Reader<'_>, wanted: Lexeme) -> Result<(), Fault>
+    requires { is_whole wanted ≡ true }
+    ensures { ReadsExactly (token.expect wanted reader.old.remaining) result reader.new.remaining }
+{
+    if reader.sees(wanted) {
+        reader.pass();
+        Ok(())
+    } else {
+        Err(refusal(reader))
+    }
+}
+
+/// Whether such a token comes next, which is then passed.
+#[tactic(auto, unfolding(token_model::specs::Remaining::after))]
+pub fn eat(reader: &mut Reader<'_>, wanted: Lexeme) -> bool
+    requires { is_whole wanted ≡ true }
+    ensures { ReadsExactly (token.eat wanted reader.old.remaining) (Ok result) reader.new.remaining }
+{
+    let found = reader.sees(wanted);
+    if found {
+        reader.pass();
+    }
+    found
+}
+
+/// The fault of the next token, or one of this kind where it has none of its own.
+#[tactic(auto, unfolding(script_grammar::specs::Fields::refusal_as, token_model::specs::Remaining::refusal, token_model::specs::Remaining::fault_at))]
+fn refusal_as(reader: &Reader<'_>, other: Kind) -> Fault
+    ensures { result ≡ spec.refusal_as other reader.now.remaining }
+{
+    let own = refusal(reader);
     match own.kind {
-        Kind::Unexpected => cursor.fail(other),
+        Kind::Unexpected => reader.fail(other),
         _ => own,
     }
 }
 
-/// Passes this word; another token is a fault of this kind, where it has none of its own.
-#[tactic(auto, unfolding(crate::specs::Fields::word_or, crate::specs::Fields::sees_word))]
-pub fn word_or(cursor: &mut Cursor<'_>, other: Kind, wanted: &str) -> Result<(), Fault>
-    ensures { ReadsExactly (spec.word_or other wanted.now cursor.old) result cursor.new }
+/// Passes this word, which is not quoted; another token is a fault of this kind, where it has none of its own.
+#[tactic(auto, unfolding(script_grammar::specs::Fields::word_or, script_grammar::specs::Fields::sees_word))]
+pub fn word_or(reader: &mut Reader<'_>, other: Kind, wanted: &str) -> Result<(), Fault>
+    ensures { ReadsExactly (spec.word_or other wanted.now reader.old.remaining) result reader.new.remaining }
 {
-    let refusal = refusal_as(cursor, other);
-    if cursor.sees(TokenKind::Name) && cursor.take() == wanted.as_bytes() {
+    let refusal = refusal_as(reader, other);
+    if reader.sees(Lexeme::Name) && reader.take() == wanted.as_bytes() {
         Ok(())
     } else {
         Err(refusal)
     }
 }
 
-/// Passes this word.
-pub fn word(cursor: &mut Cursor<'_>, wanted: &str) -> Result<(), Fault>
-    ensures { ReadsExactly (spec.word wanted.now cursor.old) result cursor.new }
+/// Passes a word of a step.
+pub fn word(reader: &mut Reader<'_>, wanted: RuleWord) -> Result<(), Fault>
+    ensures { ReadsExactly (spec.word wanted reader.old.remaining) result reader.new.remaining }
 {
-    word_or(cursor, Kind::Unexpected, wanted)
+    word_or(reader, Kind::Unexpected, wanted.word_of())
 }
 
 /// Passes a number from `low` to `high`; another number is a fault of this kind.
-#[tactic(auto, unfolding(crate::specs::Fields::number_within))]
+#[tactic(auto, unfolding(script_grammar::specs::Fields::number_within))]
 pub fn number_within(
-    cursor: &mut Cursor<'_>,
+    reader: &mut Reader<'_>,
     low: u64,
     high: u64,
     other: Kind,
 ) -> Result<u64, Fault>
-    ensures value { ReadsExactly (spec.number_within low high other cursor.old) result cursor.new }
+    ensures value { ReadsExactly (spec.number_within low high other reader.old.remaining) result reader.new.remaining }
     ensures within { IfOk result (λ n. n ≤ high) }
 {
-    if !cursor.sees(TokenKind::Number) {
-        return Err(cursor.refusal());
+    if !reader.sees(Lexeme::Number) {
+        return Err(refusal(reader));
     }
-    let outside = cursor.fail(other);
-    let number = cursor.take_number();
+    let outside = reader.fail(other);
+    let number = reader.number();
     if low <= number && number <= high {
         Ok(number)
     } else {
@@ -64,10 +103,10 @@ pub fn number_within(
     }
 }
 
-/// Passes an id or a position.
-pub fn number32(cursor: &mut Cursor<'_>) -> Result<u32, Fault>
-    ensures { ReadsExactly (spec.number32 cursor.old) result cursor.new }
+/// Passes an id, a position or the number of a variable.
+pub fn number32(reader: &mut Reader<'_>) -> Result<u32, Fault>
+    ensures { ReadsExactly (spec.number32 reader.old.remaining) result reader.new.remaining }
 {
-    let number = number_within(cursor, 0, MAX_FIELD, Kind::BadNumber)?;
+    let number = number_within(reader, 0, MAX_FIELD, Kind::BadNumber)?;
     Ok(number as u32)
 }

@@ -1,20 +1,23 @@
 //! The word that a step begins with, and its fields.
 
-ghost use Rattle.std.specs.Prelude.{◌≡◌, ◌<◌, ◌^◌, IfOk};
-ghost use Rattle.std.specs.Str.{IsAscii};
-ghost use Rattle.clp_tokens.specs.Cursor as tokens;
-ghost use Rattle.clp_tokens.specs.Parsers.{ReadsExactly};
-ghost use Rattle.script_text.specs.Script as spec;
-ghost use Rattle.script_text.specs.ScriptText.{IsInRange};
+ghost use Rattle.std.specs.Prelude.{◌≡◌, IfSome};
+ghost use Rattle.std.specs.Str.{IsUtf8};
+ghost use Rattle.token_model.specs.Remaining as token;
+ghost use Rattle.token_model.specs.Parsers.{Reads, ReadsExactly};
+ghost use Rattle.script_grammar.specs.Script as spec;
 
-use crate::field::{number32, word};
+use crate::certificate::shown;
+use crate::field::{expect, number32, refusal, word};
 use case_table::{Cases, RuleWord};
-use clp_tokens::{Cursor, Fault, Kind, TokenKind};
+use clp_parser::Reader;
 use map_model::Step;
+use row_reader::row_to_show;
+use std::alloc::Global;
+use token_model::{Fault, Kind, Lexeme, ReadError};
 
-/// The text of bytes that are ASCII.
+/// The text of bytes that are whole characters.
 fn text_of(bytes: &[u8]) -> &str
-    requires { IsAscii bytes.now }
+    requires { IsUtf8 bytes.now }
     ensures { result.now ≡ bytes.now }
 {
     match str::from_utf8(bytes) {
@@ -23,87 +26,141 @@ fn text_of(bytes: &[u8]) -> &str
     }
 }
 
-/// Passes the next token, and answers the rule whose word it is.
-#[tactic(auto, using(clp_tokens::proofs::Spelled::name_is_ascii), unfolding(crate::specs::Script::rule_ahead))]
-pub fn take_rule(cursor: &mut Cursor<'_>) -> Option<RuleWord>
-    ensures value { result ≡ spec.rule_ahead cursor.old }
-    ensures next { cursor.new ≡ tokens.next cursor.old }
+/// The rule whose word comes next, which is then passed.
+#[tactic(auto, unfolding(script_grammar::specs::Script::rule_ahead))]
+fn take_rule(reader: &mut Reader<'_>) -> Option<RuleWord>
+    ensures value { result ≡ spec.rule_ahead reader.old.remaining }
+    ensures next { IfSome result (λ _. reader.new.remaining ≡ token.next reader.old.remaining) }
 {
-    if cursor.sees(TokenKind::Name) {
-        RuleWord::case_of(text_of(cursor.take()))
+    if reader.sees(Lexeme::Name) {
+        RuleWord::case_of(text_of(reader.take()))
     } else {
-        cursor.take();
         None
     }
 }
 
-/// `C at I`: a clause's id and a position in it.
-#[tactic(auto, unfolding(crate::specs::Script::place))]
-fn place(cursor: &mut Cursor<'_>) -> Result<(u32, u32), Fault>
-    ensures value { ReadsExactly (spec.place cursor.old) result cursor.new }
-    ensures in_range { IfOk result (λ at. (at.0 < 2 ^ 32) × (at.1 < 2 ^ 32)) }
+#[tactic(auto, unfolding(script_grammar::specs::Script::unfold_fields))]
+fn unfold_fields(reader: &mut Reader<'_>) -> Result<Step, Fault>
+    ensures { ReadsExactly (spec.unfold_fields reader.old.remaining) result reader.new.remaining }
 {
-    let id = number32(cursor)?;
-    word(cursor, RuleWord::At.word_of())?;
-    let position = number32(cursor)?;
-    Ok((id, position))
-}
-
-#[tactic(auto, unfolding(crate::specs::Script::unfold_fields))]
-fn unfold_fields(cursor: &mut Cursor<'_>) -> Result<Step, Fault>
-    ensures value { ReadsExactly (spec.unfold_fields cursor.old) result cursor.new }
-    ensures in_range { IfOk result (λ s. IsInRange s) }
-{
-    let (id, at) = place(cursor)?;
-    cursor.expect(TokenKind::End)?;
+    let id = number32(reader)?;
+    word(reader, RuleWord::At)?;
+    let at = number32(reader)?;
+    expect(reader, Lexeme::End)?;
     Ok(Step::Unfold { id, at })
 }
 
-#[tactic(auto, unfolding(crate::specs::Script::merge_fields))]
-fn merge_fields(cursor: &mut Cursor<'_>) -> Result<Step, Fault>
-    ensures value { ReadsExactly (spec.merge_fields cursor.old) result cursor.new }
-    ensures in_range { IfOk result (λ s. IsInRange s) }
+#[tactic(auto, unfolding(script_grammar::specs::Script::delete_fields))]
+fn delete_fields(alloc: Global, reader: &mut Reader<'_>) -> Result<Step, ReadError>
+    ensures { Reads (spec.delete_fields reader.old.remaining) result reader.new.remaining }
 {
-    let (id, first) = place(cursor)?;
-    cursor.expect(TokenKind::Comma)?;
-    let second = number32(cursor)?;
-    cursor.expect(TokenKind::End)?;
+    let id = number32(reader)?;
+    word(reader, RuleWord::False)?;
+    word(reader, RuleWord::Show)?;
+    let show = shown(alloc, reader)?;
+    expect(reader, Lexeme::End)?;
+    Ok(Step::DeleteFalse { id, show })
+}
+
+#[tactic(auto, unfolding(script_grammar::specs::Script::merge_fields))]
+fn merge_fields(reader: &mut Reader<'_>) -> Result<Step, Fault>
+    ensures { ReadsExactly (spec.merge_fields reader.old.remaining) result reader.new.remaining }
+{
+    let id = number32(reader)?;
+    word(reader, RuleWord::At)?;
+    let first = number32(reader)?;
+    expect(reader, Lexeme::Comma)?;
+    let second = number32(reader)?;
+    expect(reader, Lexeme::End)?;
     Ok(Step::Merge { id, first, second })
 }
 
-/// The step that comes next, which is then passed.
-#[tactic(auto, unfolding(crate::specs::Script::step))]
-pub fn read_step(cursor: &mut Cursor<'_>) -> Result<Step, Fault>
-    ensures value { ReadsExactly (spec.step cursor.old) result cursor.new }
-    ensures in_range { IfOk result (λ s. IsInRange s) }
+#[tactic(auto, unfolding(script_grammar::specs::Script::add_fields))]
+fn add_fields(alloc: Global, reader: &mut Reader<'_>) -> Result<Step, ReadError>
+    ensures { Reads (spec.add_fields reader.old.remaining) result reader.new.remaining }
 {
-    let refusal = cursor.refusal();
-    match take_rule(cursor) {
-        Some(RuleWord::Unfold) => unfold_fields(cursor),
-        Some(RuleWord::Merge) => merge_fields(cursor),
-        Some(RuleWord::At) | None => Err(refusal),
-    }
+    let id = number32(reader)?;
+    word(reader, RuleWord::Row)?;
+    let row = row_to_show(alloc, reader)?;
+    let show = shown(alloc, reader)?;
+    expect(reader, Lexeme::End)?;
+    Ok(Step::Add { id, row, show })
 }
 
-fn begins_step(rule: Option<RuleWord>) -> bool
-    ensures { result ≡ spec.begins_step rule }
+#[tactic(auto, unfolding(script_grammar::specs::Script::drop_fields))]
+fn drop_fields(alloc: Global, reader: &mut Reader<'_>) -> Result<Step, ReadError>
+    ensures { Reads (spec.drop_fields reader.old.remaining) result reader.new.remaining }
 {
-    match rule {
-        Some(RuleWord::Unfold | RuleWord::Merge) => true,
-        Some(RuleWord::At) | None => false,
+    let id = number32(reader)?;
+    word(reader, RuleWord::Row)?;
+    let row = number32(reader)?;
+    word(reader, RuleWord::Show)?;
+    let show = shown(alloc, reader)?;
+    expect(reader, Lexeme::End)?;
+    Ok(Step::Drop { id, row, show })
+}
+
+#[tactic(auto, unfolding(script_grammar::specs::Script::project_fields))]
+fn project_fields(reader: &mut Reader<'_>) -> Result<Step, Fault>
+    ensures { ReadsExactly (spec.project_fields reader.old.remaining) result reader.new.remaining }
+{
+    let id = number32(reader)?;
+    word(reader, RuleWord::Var)?;
+    let var = number32(reader)?;
+    expect(reader, Lexeme::End)?;
+    Ok(Step::Project { id, var })
+}
+
+#[tactic(auto, unfolding(script_grammar::specs::Script::equate_fields))]
+fn equate_fields(alloc: Global, reader: &mut Reader<'_>) -> Result<Step, ReadError>
+    ensures { Reads (spec.equate_fields reader.old.remaining) result reader.new.remaining }
+{
+    let id = number32(reader)?;
+    word(reader, RuleWord::Var)?;
+    let var = number32(reader)?;
+    word(reader, RuleWord::To)?;
+    let to = number32(reader)?;
+    word(reader, RuleWord::Show)?;
+    let show = shown(alloc, reader)?;
+    expect(reader, Lexeme::End)?;
+    Ok(Step::Equate { id, var, to, show })
+}
+
+/// The step that comes next, which is then passed.
+#[tactic(auto, unfolding(script_grammar::specs::Script::step))]
+pub fn step(alloc: Global, reader: &mut Reader<'_>) -> Result<Step, ReadError>
+    ensures { Reads (spec.step reader.old.remaining) result reader.new.remaining }
+{
+    let refusal = refusal(reader);
+    match take_rule(reader) {
+        Some(RuleWord::Unfold) => Ok(unfold_fields(reader)?),
+        Some(RuleWord::Delete) => delete_fields(alloc, reader),
+        Some(RuleWord::Merge) => Ok(merge_fields(reader)?),
+        Some(RuleWord::Add) => add_fields(alloc, reader),
+        Some(RuleWord::Drop) => drop_fields(alloc, reader),
+        Some(RuleWord::Project) => Ok(project_fields(reader)?),
+        Some(RuleWord::Equate) => equate_fields(alloc, reader),
+        _ => Err(ReadError::Fault(refusal)),
     }
 }
 
 /// Why no step may begin here, where there are as many as may be.
-#[tactic(auto, unfolding(crate::specs::Script::past_limit))]
-pub fn past_limit(cursor: &mut Cursor<'_>) -> Fault
-    ensures { result ≡ spec.past_limit cursor.old }
+#[tactic(auto, unfolding(script_grammar::specs::Script::past_limit))]
+pub fn past_limit(reader: &mut Reader<'_>) -> Fault
+    ensures { result ≡ spec.past_limit reader.old.remaining }
 {
-    let too_many = cursor.fail(Kind::TooMany);
-    let refusal = cursor.refusal();
-    if begins_step(take_rule(cursor)) {
-        too_many
-    } else {
-        refusal
+    let too_many = reader.fail(Kind::TooMany);
+    let refusal = refusal(reader);
+    match take_rule(reader) {
+        Some(
+            RuleWord::Unfold
+            | RuleWord::Delete
+            | RuleWord::Merge
+            | RuleWord::Add
+            | RuleWord::Drop
+            | RuleWord::Project
+            | RuleWord::Equate,
+        ) => too_many,
+        _ => refusal,
     }
 }

@@ -1,0 +1,48 @@
+-- The words and the numbers of a script.
+use Rattle.std.specs.Prelude.{ℕ, ◌&&◌, Bool, nat_le, if◌then◌else◌, List, Ok, Err}
+use Rattle.std.specs.Str.{bytes_eq}
+use Rattle.case_table.specs.declared.rule_word.RuleWord.{RuleWord}
+use Rattle.case_table.specs.Rules.{rule_word}
+use Rattle.token_model.specs.declared.token.Lexeme.TheVariants as l
+use Rattle.token_model.specs.declared.fault.Kind.{Kind}
+use Rattle.token_model.specs.declared.fault.Kind.TheVariants.{Unexpected, BadNumber}
+use Rattle.token_model.specs.declared.fault.Fault.{Fault}
+use Rattle.token_model.specs.Numbers.{number_value}
+use Rattle.token_model.specs.Remaining.{Remaining, lexeme, spelling, next, sees, reason, fault_at, refusal}
+use Rattle.token_model.specs.Parsers.{Parser}
+
+-- the greatest id, position and number of a variable
+abbrev pub max_field : ℕ
+max_field = 4294967295
+
+-- this kind, where a token has no fault of its own
+abbrev pub in_place_of : Kind → Kind → Kind
+in_place_of other Unexpected = other
+in_place_of other own = own
+
+-- the fault of the next token, or one of this kind where it has none of its own
+unfoldable pub refusal_as : Kind → Remaining → Fault
+refusal_as other r = fault_at (in_place_of other (reason (lexeme r))) r
+
+-- this word, which is not quoted, comes next
+unfoldable pub sees_word : List ℕ → Remaining → Bool
+sees_word wanted r = sees l.Name r && bytes_eq (spelling r) wanted
+
+-- takes this word; another token is a fault of this kind, where it has none of its own
+unfoldable pub word_or : Kind → List ℕ → Parser Remaining (Unit {0})
+word_or other wanted = λ r. if sees_word wanted r then Ok (tt, next r) else Err (refusal_as other r)
+
+-- takes a word of a step
+abbrev pub word : RuleWord → Parser Remaining (Unit {0})
+word wanted = word_or Unexpected (rule_word wanted)
+
+-- a number from one limit to another; a number outside is a fault of this kind
+unfoldable pub number_within : ℕ → ℕ → Kind → Parser Remaining ℕ
+number_within low high other = λ r. if sees l.Number r then number_by (number_value (spelling r)) r else Err (refusal r)
+  where
+    number_by : ℕ → Parser Remaining ℕ
+    number_by n = λ r. if nat_le low n && nat_le n high then Ok (n, next r) else Err (fault_at other r)
+
+-- an id, a position or the number of a variable
+abbrev pub number32 : Parser Remaining ℕ
+number32 = number_within 0 max_field BadNumber

@@ -1,0 +1,4 @@
+pub mod Fields
+pub mod Certificates
+pub mod Script
+pub mod ScriptText

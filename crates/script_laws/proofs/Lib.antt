@@ -1,0 +1,11 @@
+pub mod Tokens
+pub mod Certificates
+pub mod Variables
+pub mod PrintedRows
+pub mod Steps
+pub mod Ascii
+pub mod Scripts
+pub mod Outcomes
+pub mod ReadCertificates
+pub mod ReadRows
+pub mod ReadSteps
