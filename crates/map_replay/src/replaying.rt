@@ -11,14 +11,14 @@ ghost use Rattle.replay_model.specs.Headline.{KeepsProvability};
 
 use crate::run::apply;
 use clause_loader::{LoadFault, Loaded, load};
-use clp_reader::{TextError, read_program};
-use clp_tokens::ReadError;
+use clp_reader::read_program;
 use map_model::{Refusal, Step};
 use map_state::State;
 use replay_model::ReplayFault;
-use script_text::read_steps;
+use script_text::read_script;
 use std::alloc::Global;
 use term_store::NoMemory;
+use text_fault::TextError;
 
 /// The start state of a loaded program: each clause, marked and live, has its place from 1 as its id.
 pub fn start(alloc: Global, loaded: Loaded) -> Result<State, NoMemory>
@@ -39,7 +39,7 @@ pub fn start(alloc: Global, loaded: Loaded) -> Result<State, NoMemory>
 ///
 /// # Errors
 ///
-/// `Program` exactly where the text is no program, and else `Load` exactly where a clause is refused.
+/// `Program`, with the first fault, exactly where the text is no program, and else `Load` exactly where a clause is refused.
 pub fn open_program(alloc: Global, program: &[u8]) -> Result<State, ReplayFault>
     requires { length program.now < 2 ^ 32 }
     ensures opens { IfOk result (λ s. opened program.now ≡ Ok (state_of s)) }
@@ -47,7 +47,7 @@ pub fn open_program(alloc: Global, program: &[u8]) -> Result<State, ReplayFault>
 {
     let source = match read_program(alloc, program) {
         Ok(source) => source,
-        Err(TextError::Fault) => return Err(ReplayFault::Program),
+        Err(TextError::Fault(fault)) => return Err(ReplayFault::Program(fault)),
         Err(TextError::NoMemory) => return Err(ReplayFault::NoMemory),
     };
     let loaded = match load(alloc, source.as_slice()) {
@@ -81,7 +81,7 @@ fn run_steps(state: &mut State, steps: &[Step]) -> Result<(), ReplayFault>
 ///
 /// # Errors
 ///
-/// `Script` exactly where the text is no script, and else `Refused` exactly where a step is refused, with the number
+/// `Script`, with the first fault, exactly where the text is no script, and else `Refused` exactly where a step is refused, with the number
 /// and refusal of the first such step: the state is then that after all steps before it. After `NoMemory` it is that
 /// after some of the first steps.
 pub fn run_script(alloc: Global, state: &mut State, script: &[u8]) -> Result<(), ReplayFault>
@@ -90,10 +90,10 @@ pub fn run_script(alloc: Global, state: &mut State, script: &[u8]) -> Result<(),
     ensures refuses { IfErr result (λ e. (e ≡ ReplayFault.NoMemory) ⊎ (scripted (state_of state.old) script.now ≡ Err e)) }
     ensures stops { IfErr result (StopsWithin (state_of state.old) script.now (state_of state.new)) }
 {
-    match read_steps(alloc, script) {
+    match read_script(alloc, script) {
         Ok(steps) => run_steps(state, steps.as_slice()),
-        Err(ReadError::Fault(_)) => Err(ReplayFault::Script),
-        Err(ReadError::NoMemory) => Err(ReplayFault::NoMemory),
+        Err(TextError::Fault(fault)) => Err(ReplayFault::Script(fault)),
+        Err(TextError::NoMemory) => Err(ReplayFault::NoMemory),
     }
 }
 

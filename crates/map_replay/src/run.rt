@@ -6,7 +6,8 @@ ghost use Rattle.map_state.specs.Seen.{state_of};
 use clause_store::Limit;
 use map_model::{Refusal, Step};
 use map_state::State;
-use rules_drop::merge;
+use rules_drop::{delete_false, merge};
+use rules_rows::{add_row, drop_row, equate, project};
 use rules_unfold::unfold;
 
 const MAX_STEPS: u32 = 100_000;
@@ -24,6 +25,11 @@ pub fn apply(state: &mut State, step: &Step) -> Result<Step, Refusal>
     }
     match step {
         Step::Unfold { id, at } => unfold(state, *id, *at),
+        Step::DeleteFalse { id, show } => delete_false(state, *id, show),
         Step::Merge { id, first, second } => merge(state, *id, *first, *second),
+        Step::Add { id, row, show } => add_row(state, *id, row, show),
+        Step::Drop { id, row, show } => drop_row(state, *id, *row, show),
+        Step::Project { id, var } => project(state, *id, *var),
+        Step::Equate { id, var, to, show } => equate(state, *id, *var, *to, show),
     }
 }

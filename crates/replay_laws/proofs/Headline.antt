@@ -1,9 +1,10 @@
 -- The headline: whatever replay accepts, the program that it writes proves what the input program proves.
-use Rattle.std.proofs.Common.{◌≡◌, ℕ, ◌+◌, ◌<◌, ◌≤◌, List, [], ◌∷◌, ◌++◌, length, refl, sym, ◌∙◌, ap, subst, map, arith, ◌↔◌}
+use Rattle.std.proofs.Common.{◌≡◌, ℕ, ◌+◌, ◌<◌, ◌≤◌, List, [], ◌∷◌, ◌++◌, length, refl, sym, ◌∙◌, ap, subst, map, arith, ◌^◌, ◌↔◌}
 use Rattle.std.specs.Prelude.{Some, Result, Ok, Err, All, Contains}
 use Rattle.std.proofs.lemmas.List.Elements.{All-nil, All-cons, All-head, All-tail}
 use Rattle.std.proofs.lemmas.List.{length-map}
-use Rattle.clp_tokens.specs.declared.fault.Fault.{Fault}
+use Rattle.text_fault.specs.Places.{located, placed}
+use Rattle.token_model.specs.declared.fault.Fault.{Fault}
 use Rattle.clp_model.specs.Values.{GroundAtom}
 use Rattle.clp_model.specs.Clauses.{Clause}
 use Rattle.clp_model.specs.Proof.{Provable}
@@ -13,29 +14,34 @@ use Rattle.clause_model.specs.Canonical.{IsCanonical}
 use Rattle.clause_model.specs.Load.{Program, Refused, sizes_of, load}
 use Rattle.clause_store.specs.declared.source.SourceClause.{SourceClause}
 use Rattle.clause_store.specs.Source.{meaning_of}
-use Rattle.clause_laws.specs.Laws.{AllNum}
 use Rattle.clp_grammar.specs.Grammar.{program}
-use Rattle.clp_grammar.specs.Readable.{IsReadable, AreReadable, IsPrintable}
-use Rattle.clause_loader.specs.WellFormed as loader
-use Rattle.clause_model.specs.Variables.{rows_variables}
-use Rattle.clp_model.specs.Trees.{variables_in}
-use Rattle.text_laws.proofs.Laws.{what_is_read_is_readable, what_is_read_is_well_formed, what_is_read_has_orderly_rows, printed_programs_are_loaded_again}
-use Rattle.text_laws.specs.Plain.{is_short_plain, is_ordinary}
-use Rattle.text_laws.proofs.Plain.{read_is_plain, plain_is_printable}
-use Rattle.name_laws.specs.Names.{AreOver, IsPure, EquationsHaveNames}
-use Rattle.name_laws.proofs.Loading.{loading_keeps, loading_pure}
-use Rattle.name_laws.proofs.States.{start_keeps_names, run_keeps_names, start_pure, run_pure}
+use Rattle.clp_grammar.specs.Grammar.{max_clauses}
+use Rattle.standing_model.specs.Names.{is_short, is_ordinary}
+use Rattle.grammar_laws.specs.Read.{IsReadClause}
+use Rattle.grammar_laws.proofs.Programs.{programs}
+use Rattle.read_name_laws.specs.Laws.{HasTextNames}
+use Rattle.read_name_laws.proofs.Programs.{programs as text_names, over as texts_over}
+use Rattle.std.specs.Str.{is_utf8}
+use Rattle.text_laws.specs.Laws.{IsPrintable}
+use Rattle.text_laws.proofs.Laws.{printed_programs_are_loaded_again}
+use Rattle.name_laws.specs.Names.{AreOver, EquationsHaveNames}
+use Rattle.name_laws.proofs.Loading.{loading_keeps}
+use Rattle.name_laws.proofs.States.{start_keeps_names, run_keeps_names}
 use Rattle.limit_laws.specs.Limits.{IsWithinLimits}
 use Rattle.limit_laws.proofs.Limits.{start_within, run_keeps_limits}
-use Rattle.state_laws.specs.WellFormed.{IsWellFormed, side_variables, clauses_at}
+use Rattle.rule_laws.specs.Steps.{IsHeld}
+use Rattle.state_laws.specs.WellFormed.{IsWellFormed, clauses_at}
+use Rattle.state_laws.specs.KeptState.{IsKeptState}
 use Rattle.state_laws.proofs.Loaded.{loaded_program_is_held, loading_keeps_provable, loaded_run_keeps}
 use Rattle.state_laws.proofs.Running.{run_keeps_state}
 use Rattle.state_laws.proofs.Starting.{start_is_kept}
-use Rattle.script_text.specs.Script.{script}
+use Rattle.script_grammar.specs.Script.{script}
+use Rattle.script_laws.proofs.ReadSteps.{script_is}
 use Rattle.map_model.specs.declared.step.Step.{Step}
-use Rattle.map_model.specs.declared.step.Step.TheVariants.{Unfold, Merge}
+use Rattle.map_model.specs.declared.step.Step.TheVariants.{Unfold, DeleteFalse, Merge, Add, Drop, Project, Equate}
 use Rattle.map_model.specs.declared.refusal.Refusal.{Refusal}
 use Rattle.map_model.specs.State.{Entry, State, start_state, live_entries, live_clauses, nodes_of, clauses_of}
+use Rattle.map_model.specs.Replacing.{HasRisingRow}
 use Rattle.map_model.specs.After.{run}
 use Rattle.replay_model.specs.declared.replay_fault.ReplayFault.{ReplayFault}
 use Rattle.replay_model.specs.declared.replay_fault.ReplayFault.TheVariants as fault
@@ -69,16 +75,16 @@ module _ (p s : List ℕ) (t : State) where
       record { source = source; source_is = e; loaded = q; loads = l; steps = steps; steps_are = es; runs = er ∙ ap Ok (ok_state u t h) }
 
   by_script : (source : List SourceClause) → program p ≡ Ok source → (q : Program) → load (map meaning_of source) ≡ Ok q
-      → (r : Result (List Step) Fault) → script s ≡ r → carried_out (start_state q.clauses q.predicates) r ≡ Ok t → Replay p s t
-  by_script source e q l (Err f) es h = absurd (err_state fault.Script t h)
+      → (r : Result (List Step) Fault) → script s ≡ r → carried_out (start_state q.clauses q.predicates) (located (length s) r) ≡ Ok t → Replay p s t
+  by_script source e q l (Err f) es h = absurd (err_state (fault.Script (placed (length s) f)) t h)
   by_script source e q l (Ok steps) es h = by_run source e q l steps es (run (start_state q.clauses q.predicates) steps) refl h
 
   by_load : (source : List SourceClause) → program p ≡ Ok source → (r : Result Program Refused) → load (map meaning_of source) ≡ r → then_scripted s (started r) ≡ Ok t → Replay p s t
   by_load source e (Err l) el h = absurd (err_state (fault.Load (fault_of l.0 l.1)) t h)
   by_load source e (Ok q) el h = by_script source e q el (script s) refl h
 
-  by_program : (r : Result (List SourceClause) Fault) → program p ≡ r → then_scripted s (loaded r) ≡ Ok t → Replay p s t
-  by_program (Err f) e h = absurd (err_state fault.Program t h)
+  by_program : (r : Result (List SourceClause) Fault) → program p ≡ r → then_scripted s (loaded (located (length p) r)) ≡ Ok t → Replay p s t
+  by_program (Err f) e h = absurd (err_state (fault.Program (placed (length p) f)) t h)
   by_program (Ok source) e h = by_load source e (load (map meaning_of source)) refl h
 
   replay_parts : replayed p s ≡ Ok t → Replay p s t
@@ -86,48 +92,32 @@ module _ (p s : List ℕ) (t : State) where
 
 -- ---- the source clauses
 
-add_nil : (ns : List ℕ) → ns ++ [] ≡ ns
-add_nil [] = refl
-add_nil (n ∷ ns) = ap (λ ms. n ∷ ms) (add_nil ns)
-
--- a clause that was read is well formed
-formed : (c : SourceClause) → IsReadable c → IsWellFormed (meaning_of c)
-formed c h =
-    let one : AreReadable (c ∷ []) = record { each = All-cons IsReadable c [] h (All-nil IsReadable); few = omega arith } in
-    let may = All-head loader.IsWellFormed c [] (what_is_read_is_well_formed (c ∷ []) one) in
-    let places : All (λ n. (0 < n) × (n ≤ length c.sorts)) (variables_in (c.head ∷ c.atoms) ++ []) =
-    subst (All (λ n. (0 < n) × (n ≤ length c.sorts))) (sym (add_nil (variables_in (c.head ∷ c.atoms)))) may.numbered in
-    record {
-      applications = may.applications;
-      places = subst (λ rs. All (λ n. (0 < n) × (n ≤ length c.sorts)) (variables_in (c.head ∷ c.atoms) ++ rows_variables rs)) (sym h.rows) places;
-      sides = subst (λ es. All (λ n. (0 < n) × (n ≤ length c.sorts)) (side_variables es)) (sym h.equations) (All-nil (λ n. (0 < n) × (n ≤ length c.sorts)));
-      nums = (what_is_read_has_orderly_rows c h).0;
-    }
-
-all_formed : (cs : List SourceClause) → All IsReadable cs → All IsWellFormed (map meaning_of cs)
+-- what the states ask of each clause that was read
+all_formed : (cs : List SourceClause) → All IsReadClause cs → All IsWellFormed (map meaning_of cs)
 all_formed [] h = All-nil IsWellFormed
-all_formed (c ∷ cs) h = All-cons IsWellFormed (meaning_of c) (map meaning_of cs) (formed c (All-head IsReadable c cs h)) (all_formed cs (All-tail IsReadable c cs h))
-
-all_num : (cs : List SourceClause) → All IsReadable cs → AllNum (map meaning_of cs)
-all_num [] h = tt
-all_num (c ∷ cs) h = ((what_is_read_has_orderly_rows c (All-head IsReadable c cs h)).0, all_num cs (All-tail IsReadable c cs h))
+all_formed (c ∷ cs) h = All-cons IsWellFormed (meaning_of c) (map meaning_of cs) (All-head IsReadClause c cs h).well (all_formed cs (All-tail IsReadClause c cs h))
 
 -- its names and predicates are those that are read
 abbrev IsOverRead : Clause → Type 0
-IsOverRead c = EquationsHaveNames is_short_plain c × AreOver is_short_plain is_ordinary c
+IsOverRead c = EquationsHaveNames is_short c × AreOver is_short is_ordinary c
 
-over_read : (c : SourceClause) → IsReadable c → IsOverRead (meaning_of c)
-over_read c h = let read = read_is_plain c h in (read.1, read.0.names)
+over_read : (c : SourceClause) → IsReadClause c → IsOverRead (meaning_of c)
+over_read c h = (h.named, h.over)
 
-all_over : (cs : List SourceClause) → All IsReadable cs → All IsOverRead (map meaning_of cs)
+all_over : (cs : List SourceClause) → All IsReadClause cs → All IsOverRead (map meaning_of cs)
 all_over [] h = All-nil IsOverRead
-all_over (c ∷ cs) h = All-cons IsOverRead (meaning_of c) (map meaning_of cs) (over_read c (All-head IsReadable c cs h)) (all_over cs (All-tail IsReadable c cs h))
+all_over (c ∷ cs) h = All-cons IsOverRead (meaning_of c) (map meaning_of cs) (over_read c (All-head IsReadClause c cs h)) (all_over cs (All-tail IsReadClause c cs h))
 
-all_pure : (cs : List SourceClause) → All IsReadable cs → All IsPure (map meaning_of cs)
-all_pure [] h = All-nil IsPure
-all_pure (c ∷ cs) h =
-    let r = All-head IsReadable c cs h in
-    All-cons IsPure (meaning_of c) (map meaning_of cs) (record { rows = r.rows; sorts = r.sorts }) (all_pure cs (All-tail IsReadable c cs h))
+-- its names are in UTF-8
+abbrev IsOverTexts : Clause → Type 0
+IsOverTexts c = EquationsHaveNames is_utf8 c × AreOver is_utf8 is_ordinary c
+
+all_texts : (cs : List SourceClause) → All IsReadClause cs → All HasTextNames cs → All IsOverTexts (map meaning_of cs)
+all_texts [] h t = All-nil IsOverTexts
+all_texts (c ∷ cs) h t =
+    let one = All-head HasTextNames c cs t in
+    All-cons IsOverTexts (meaning_of c) (map meaning_of cs) (one.equations, texts_over is_short is_ordinary c one (All-head IsReadClause c cs h).over)
+    (all_texts cs (All-tail IsReadClause c cs h) (All-tail HasTextNames c cs t))
 
 -- ---- the program that is written
 
@@ -139,36 +129,41 @@ sizes_live : (es : List Entry) → sizes_of (map Some (clauses_of es)) ≡ nodes
 sizes_live [] = refl
 sizes_live (e ∷ es) = ap (λ n. clause_size e.clause + n) (sizes_live es)
 
-printable : (cs : List Clause) → All IsCanonical cs → All (AreOver is_short_plain is_ordinary) cs → All IsPure cs → All IsPrintable cs
-printable [] canonical over pure = All-nil IsPrintable
-printable (c ∷ cs) canonical over pure =
+printable : (cs : List Clause) → All IsCanonical cs → All (AreOver is_short is_ordinary) cs → All (AreOver is_utf8 is_ordinary) cs → All IsHeld cs → All IsPrintable cs
+printable [] canonical over texts held = All-nil IsPrintable
+printable (c ∷ cs) canonical over texts held =
     All-cons IsPrintable c cs
-    (plain_is_printable c (All-head IsCanonical c cs canonical) (record { names = All-head (AreOver is_short_plain is_ordinary) c cs over; pure = All-head IsPure c cs pure }))
-    (printable cs (All-tail IsCanonical c cs canonical) (All-tail (AreOver is_short_plain is_ordinary) c cs over) (All-tail IsPure c cs pure))
+    (record {
+      canonical = All-head IsCanonical c cs canonical;
+      over = All-head (AreOver is_short is_ordinary) c cs over;
+      texts = All-head (AreOver is_utf8 is_ordinary) c cs texts;
+      nums = (All-head IsHeld c cs held).nums;
+    })
+    (printable cs (All-tail IsCanonical c cs canonical) (All-tail (AreOver is_short is_ordinary) c cs over) (All-tail (AreOver is_utf8 is_ordinary) c cs texts) (All-tail IsHeld c cs held))
 
 -- the state that a run of a program that was read ends in can be printed
-module _ (source : List SourceClause) (readable : AreReadable source) (q : Program) (loads : load (map meaning_of source) ≡ Ok q) (steps : List Step) (t : State)
-    (runs : run (start_state q.clauses q.predicates) steps ≡ Ok t) where
+module _ (source : List SourceClause) (read : All IsReadClause source) (texts : All HasTextNames source) (short : length source ≤ max_clauses) (q : Program) (loads : load (map meaning_of source) ≡ Ok q)
+    (steps : List Step) (rising : All HasRisingRow steps) (t : State) (runs : run (start_state q.clauses q.predicates) steps ≡ Ok t) where
   begun : State
   begun = start_state q.clauses q.predicates
 
-  ended_canonical : All IsCanonical (live_clauses t)
+  ended_kept : IsKeptState t
   unfolding begun
-  ended_canonical =
-      let held = loaded_program_is_held (map meaning_of source) q (all_formed source readable.each) loads in
-      (run_keeps_state begun t steps runs (start_is_kept q.clauses q.predicates held.0 held.1)).canonical
+  ended_kept =
+      let held = loaded_program_is_held (map meaning_of source) q (all_formed source read) loads in
+      run_keeps_state begun t steps runs rising (start_is_kept q.clauses q.predicates held.0 held.1)
 
-  ended_over : All (AreOver is_short_plain is_ordinary) (live_clauses t)
+  ended_over : All (AreOver is_short is_ordinary) (live_clauses t)
   unfolding begun
   ended_over =
-      let placed = loading_keeps is_short_plain is_ordinary (map meaning_of source) q (all_over source readable.each) loads in
-      run_keeps_names is_short_plain is_ordinary begun t steps (start_keeps_names is_short_plain is_ordinary q.clauses q.predicates placed) runs
+      let placed = loading_keeps is_short is_ordinary (map meaning_of source) q (all_over source read) loads in
+      run_keeps_names is_short is_ordinary begun t steps (start_keeps_names is_short is_ordinary q.clauses q.predicates placed) runs
 
-  ended_pure : All IsPure (live_clauses t)
+  ended_texts : All (AreOver is_utf8 is_ordinary) (live_clauses t)
   unfolding begun
-  ended_pure =
-      let placed = loading_pure (map meaning_of source) q (all_pure source readable.each) loads in
-      run_pure begun t steps (start_pure q.clauses q.predicates placed) runs
+  ended_texts =
+      let placed = loading_keeps is_utf8 is_ordinary (map meaning_of source) q (all_texts source read texts) loads in
+      run_keeps_names is_utf8 is_ordinary begun t steps (start_keeps_names is_utf8 is_ordinary q.clauses q.predicates placed) runs
 
   ended_within : IsWithinLimits t
   unfolding begun
@@ -176,18 +171,22 @@ module _ (source : List SourceClause) (readable : AreReadable source) (q : Progr
       let l = loaded_places (map meaning_of source) q loads in
       let long = l.long in
       let count = length-map source meaning_of in
-      let few = readable.few in
-      run_keeps_limits begun t steps runs (start_within q.clauses q.predicates (omega (arith, long, count, few)) l.small)
+      run_keeps_limits begun t steps runs (start_within q.clauses q.predicates (omega (arith, long, count, short)) l.small)
 
   ended_printable : All IsPrintable (live_clauses t)
-  ended_printable = printable (live_clauses t) ended_canonical ended_over ended_pure
+  ended_printable = printable (live_clauses t) ended_kept.canonical ended_over ended_texts ended_kept.held
 
 -- ---- the script defines nothing
 
 no_definition : (steps : List Step) → definitions_of steps ≡ []
 no_definition [] = refl
 no_definition (Unfold id at ∷ steps) = no_definition steps
+no_definition (DeleteFalse id show ∷ steps) = no_definition steps
 no_definition (Merge id first second ∷ steps) = no_definition steps
+no_definition (Add id row show ∷ steps) = no_definition steps
+no_definition (Drop id row show ∷ steps) = no_definition steps
+no_definition (Project id var ∷ steps) = no_definition steps
+no_definition (Equate id var to show ∷ steps) = no_definition steps
 
 nothing_defined : (steps : List Step) (a : GroundAtom) → Contains (map (λ c. predicate_of c.head) (definitions_of steps)) (ground_predicate a) → ⊥
 nothing_defined steps a h =
@@ -196,20 +195,23 @@ nothing_defined steps a h =
 
 -- ---- the headline
 
-pub keeps_provability : (p s : List ℕ) (t : State) → replayed p s ≡ Ok t → KeepsProvability p s (output t)
-keeps_provability p s t h =
+pub keeps_provability : (p s : List ℕ) (t : State) → length p < 2 ^ 32 → replayed p s ≡ Ok t → KeepsProvability p s (output t)
+keeps_provability p s t small_text h =
     let r = replay_parts p s t h in
-    let readable = what_is_read_is_readable p r.source r.source_is in
-    let within = ended_within r.source readable r.loaded r.loads r.steps t r.runs in
+    let read = programs p r.source small_text r.source_is in
+    let texts = text_names p r.source r.source_is in
+    let rising = (script_is s r.steps r.steps_are).1 in
+    let within = ended_within r.source read.0 texts read.1 r.loaded r.loads r.steps rising t r.runs in
     let few = within.few in
     let counted = within.counted in
     let small = within.small in
     let long = length-map (live_entries t) (λ e. e.clause) in
     let sizes = sizes_live (live_entries t) in
-    let back = printed_programs_are_loaded_again (live_clauses t) (omega (arith, few, long)) (ended_printable r.source readable r.loaded r.loads r.steps t r.runs) (omega (arith, sizes, counted, small)) in
+    let back =
+    printed_programs_are_loaded_again (live_clauses t) (omega (arith, few, long)) (ended_printable r.source read.0 texts read.1 r.loaded r.loads r.steps rising t r.runs) (omega (arith, sizes, counted, small)) in
     let same : (a : GroundAtom) → Provable (map meaning_of back.0) a ↔ Provable (map meaning_of r.source) a = λ a.
-    let one = loading_keeps_provable (map meaning_of back.0) (record { clauses = map Some (live_clauses t); predicates = initial_predicates (live_clauses t) }) back.3 (all_num back.0 back.2.each) a in
-    let two = loaded_run_keeps (map meaning_of r.source) r.loaded r.steps t (all_formed r.source readable.each) r.loads r.runs a in
+    let one = loading_keeps_provable (map meaning_of back.0) (record { clauses = map Some (live_clauses t); predicates = initial_predicates (live_clauses t) }) back.3 back.2 a in
+    let two = loaded_run_keeps (map meaning_of r.source) r.loaded r.steps t (all_formed r.source read.0) r.loads r.runs rising a in
     let live = places_of (live_clauses t) in (
       λ x. two.0 (subst (λ cs. Provable cs a) live (one.1 x)),
       λ x. one.0 (subst (λ cs. Provable cs a) (sym live) (two.1 x)),

@@ -2,12 +2,12 @@
 //! function.
 #![tactic(auto)]
 
-ghost use Rattle.std.specs.Prelude.{◌≡◌, ℕ, List, Ok};
+ghost use Rattle.std.specs.Prelude.{◌≡◌, ◌<◌, ◌^◌, ℕ, List, length, Ok};
 ghost use Rattle.map_model.specs.State.{State as S};
 ghost use Rattle.replay_model.specs.Replay.{replayed, output};
 ghost use Rattle.replay_model.specs.Headline.{KeepsProvability};
 
-/// What is printed of an accepted replay is a program that proves what the input program proves.
+/// What is printed of an accepted replay of a program of fewer than 2^32 bytes is a program that proves what the input program proves.
 pub fn replay_keeps_provability()
-    ensures { (p s : List ℕ) (t : S) → replayed p s ≡ Ok t → KeepsProvability p s (output t) }
+    ensures { (p s : List ℕ) (t : S) → length p < 2 ^ 32 → replayed p s ≡ Ok t → KeepsProvability p s (output t) }
 {}

@@ -9,13 +9,18 @@ use Rattle.clp_model.specs.Predicates.{ground_predicate, predicate_of, program_p
 use Rattle.clp_grammar.specs.Grammar.{program}
 use Rattle.clause_model.specs.Load.{Program, load}
 use Rattle.map_model.specs.declared.step.Step.{Step}
-use Rattle.map_model.specs.declared.step.Step.TheVariants.{Unfold, Merge}
-use Rattle.script_text.specs.Script.{script}
+use Rattle.map_model.specs.declared.step.Step.TheVariants.{Unfold, DeleteFalse, Merge, Add, Drop, Project, Equate}
+use Rattle.script_grammar.specs.Script.{script}
 
--- the definition that a step adds; unfolding and merging add none
+-- the definition that a step adds; none of these steps adds one
 abbrev pub definition_of : Step → List Clause
 definition_of (Unfold id at) = []
+definition_of (DeleteFalse id show) = []
 definition_of (Merge id first second) = []
+definition_of (Add id row show) = []
+definition_of (Drop id row show) = []
+definition_of (Project id var) = []
+definition_of (Equate id var to show) = []
 
 -- the definitions that a script adds, in order
 abbrev pub definitions_of : List Step → List Clause
