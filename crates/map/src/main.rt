@@ -1,5 +1,5 @@
-//! Replays a script of rewriting steps on a constraint logic program: `map replay P S` writes the
-//! program that the script in file S makes of the program in file P.
+//! Rewrites constraint logic programs by scripts of steps: `map replay P S` writes the program that the script in file
+//! S makes of the program in file P, and `map fill P S` writes the script with all its certificates.
 
 #![tactic(auto)]
 

@@ -1,43 +1,46 @@
 -- How the parts of a call end, and what is known then.
-use Rattle.std.specs.Prelude.{◌≡◌, ℕ, List, Option, None}
+use Rattle.std.specs.Prelude.{◌≡◌, ℕ, List, Option, Ok}
 use Rattle.std.specs.Io.KnownBytes.{append_known}
+use Rattle.map_base.specs.Outside.{Files, Rose, TakesPrefix}
 use Rattle.map_model.specs.State.{State}
-use Rattle.map_main.specs.declared.status.Status.{Status}
-use Rattle.map_main.specs.declared.status.Status.TheVariants as status
+use Rattle.replay_model.specs.Replay.{opened, scripted}
+use Rattle.status_lines.specs.Lines.{max_program, max_script, long_program_line, long_script_line, fault_line}
+use Rattle.command_model.specs.declared.status.Status.{Status}
+use Rattle.command_model.specs.declared.status.Status.TheVariants as status
+use Rattle.command_model.specs.Command as commands
+use Rattle.command_model.specs.Lines.{fault_status}
+use Rattle.command_model.specs.Plan.{Plan}
+use Rattle.command_model.specs.Causes.{Gives, LeadsTo, Awaits}
+use Rattle.map_main.specs.declared.command.TwoFiles.{TwoFiles}
+use Rattle.map_main.specs.declared.command.Command.{Command}
+use Rattle.map_main.specs.declared.command.Command.TheVariants as command
 use Rattle.map_main.specs.declared.replaying.Stop.{Stop}
 use Rattle.map_main.specs.declared.replaying.Stop.TheVariants as stop
-use Rattle.map_base.specs.Outside.{Files, Rose, TakesPrefix}
-use Rattle.map_main.specs.Command.{command_of}
-use Rattle.map_main.specs.Causes.{IsBadProgram, IsBadScript, Refuses, HasBadProgram, HasBadScript, IsRefused, IsAwaited, LeadsTo}
 
--- the count of a shelf's faults before and after, and the name of its last failed load
-module _ (shelf shelf' : ℕ) (failed : List ℕ) where
-  -- why the program of this name was not opened
-  abbrev pub NotOpened : Option Files → List ℕ → Stop → Type 0
-  NotOpened files name stop.BadProgram = (shelf' ≡ shelf) × IsBadProgram files name
-  NotOpened files name stop.ShelfFault = Rose shelf shelf' × (failed ≡ name)
-  NotOpened files name stop.NoMemory = shelf' ≡ shelf
-  NotOpened files name stop.Usage = ⊥
-  NotOpened files name stop.BadScript = ⊥
-  NotOpened files name (stop.Refused number refusal) = ⊥
+-- the command of the definitions
+abbrev pub named : Command → commands.Command
+named (command.Replay files) = commands.Replay files.program.now files.script.now
+named (command.Fill files) = commands.Fill files.program.now files.script.now
 
-  -- why the script of this name was not carried out from this state
-  abbrev pub NotCarriedOut : Option Files → List ℕ → State → Stop → Type 0
-  NotCarriedOut files name start stop.BadScript = (shelf' ≡ shelf) × IsBadScript files name start
-  NotCarriedOut files name start (stop.Refused number refusal) = (shelf' ≡ shelf) × Refuses files name start number refusal
-  NotCarriedOut files name start stop.ShelfFault = Rose shelf shelf' × (failed ≡ name)
-  NotCarriedOut files name start stop.NoMemory = shelf' ≡ shelf
-  NotCarriedOut files name start stop.Usage = ⊥
-  NotCarriedOut files name start stop.BadProgram = ⊥
+-- the program of this name was given, and it is loaded
+pub record Opens (files : Option Files) (program : List ℕ) (start : State) : Type 0 where
+  pub bytes : List ℕ
+  pub given : Gives files program max_program bytes
+  pub opens : opened bytes ≡ Ok start
 
-  -- why the words have no output
-  abbrev pub Stops : List (List ℕ) → Option Files → Stop → Type 0
-  Stops words files stop.Usage = (shelf' ≡ shelf) × (command_of words ≡ None)
-  Stops words files stop.BadProgram = (shelf' ≡ shelf) × HasBadProgram words files
-  Stops words files stop.BadScript = (shelf' ≡ shelf) × HasBadScript words files
-  Stops words files (stop.Refused number refusal) = (shelf' ≡ shelf) × IsRefused words files number refusal
-  Stops words files stop.ShelfFault = Rose shelf shelf' × IsAwaited words files failed
-  Stops words files stop.NoMemory = shelf' ≡ shelf
+-- the script of this name was given, and it ends here
+pub record Runs (files : Option Files) (script : List ℕ) (start end : State) : Type 0 where
+  pub bytes : List ℕ
+  pub given : Gives files script max_script bytes
+  pub runs : scripted start bytes ≡ Ok end
+
+-- why a plan was left before its end: the count of a shelf's faults before and after, and the name of its last failed load
+abbrev pub Stops : ℕ → ℕ → List ℕ → Option Files → Plan → Stop → Type 0
+Stops shelf shelf' failed files plan stop.LongProgram = (shelf' ≡ shelf) × LeadsTo files plan status.BadProgram long_program_line
+Stops shelf shelf' failed files plan stop.LongScript = (shelf' ≡ shelf) × LeadsTo files plan status.BadScript long_script_line
+Stops shelf shelf' failed files plan (stop.Fault f) = (shelf' ≡ shelf) × LeadsTo files plan (fault_status f) (fault_line f)
+Stops shelf shelf' failed files plan stop.ShelfFault = Rose shelf shelf' × Awaits files plan failed
+Stops shelf shelf' failed files plan stop.NoMemory = shelf' ≡ shelf
 
 -- what a sink took before and after, and the counts of its faults
 module _ (before after : Option (List ℕ)) (sink sink' : ℕ) where
@@ -48,9 +51,9 @@ module _ (before after : Option (List ℕ)) (sink sink' : ℕ) where
     no_memory : TakesPrefix before after text → sink' ≡ sink → IsWritten s text status.NoMemory
 
   -- how a call ends
-  pub data Ends (words : List (List ℕ)) (files : Option Files) (shelf shelf' : ℕ) (failed : List ℕ) : Status → Type 0 where
-    answers : (s : Status) (text : List ℕ) → LeadsTo words files s text → shelf' ≡ shelf
-        → (t : Status) → IsWritten s text t → Ends words files shelf shelf' failed t
-    shelf_failed : Rose shelf shelf' → IsAwaited words files failed → after ≡ before → sink' ≡ sink
-        → Ends words files shelf shelf' failed status.ShelfFault
-    no_memory_before : shelf' ≡ shelf → after ≡ before → sink' ≡ sink → Ends words files shelf shelf' failed status.NoMemory
+  pub data Ends (files : Option Files) (plan : Plan) (shelf shelf' : ℕ) (failed : List ℕ) : Status → Type 0 where
+    answers : (s : Status) (text : List ℕ) → LeadsTo files plan s text → shelf' ≡ shelf
+        → (t : Status) → IsWritten s text t → Ends files plan shelf shelf' failed t
+    shelf_failed : Rose shelf shelf' → Awaits files plan failed → after ≡ before → sink' ≡ sink
+        → Ends files plan shelf shelf' failed status.ShelfFault
+    no_memory_before : shelf' ≡ shelf → after ≡ before → sink' ≡ sink → Ends files plan shelf shelf' failed status.NoMemory

@@ -1,7 +1,7 @@
 -- The number with which the program ends.
 use Rattle.std.specs.Prelude.{ℕ}
-use Rattle.map_main.specs.declared.status.Status.{Status}
-use Rattle.map_main.specs.declared.status.Status.TheVariants.{Ok, Refused, Usage, BadProgram, BadScript, ShelfFault, InputFault, SinkFault, NoMemory, BudgetSpent}
+use Rattle.command_model.specs.declared.status.Status.{Status}
+use Rattle.command_model.specs.declared.status.Status.TheVariants.{Ok, Refused, Usage, BadProgram, BadScript, ShelfFault, InputFault, SinkFault, NoMemory, BudgetSpent}
 
 -- the statuses are numbered in their order, from 0
 abbrev pub number_of : Status → ℕ

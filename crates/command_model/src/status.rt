@@ -2,8 +2,8 @@
 
 ghost use Rattle.std.specs.Prelude.{◌≡◌};
 ghost use Rattle.std.specs.Process.{exit_status};
-ghost use Rattle.map_main.specs.Status.{number_of};
-ghost use Rattle.map_main.specs.declared.status.Status.TheVariants.{NoMemory};
+ghost use Rattle.command_model.specs.Status.{number_of};
+ghost use Rattle.command_model.specs.declared.status.Status.TheVariants.{NoMemory};
 
 use std::process::ExitCode;
 use term_store::NoMemory;
