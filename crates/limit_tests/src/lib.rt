@@ -1,11 +1,8 @@
-//! Heavy tests that cross crates: the limits of loading, of steps and of a run on both sides, and damaged
-//! texts. There is no other code here.
+//! Heavy tests that cross crates: the limits of loading, of steps and of a run on both sides. There is no other code here.
 #![tactic(auto)]
 
 #[cfg(test)]
 mod answers;
-#[cfg(test)]
-mod damaged_texts;
 #[cfg(test)]
 mod loads;
 #[cfg(test)]

@@ -131,7 +131,7 @@ fn reads_so(alloc: Global, text: &[u8], wanted: Option<usize>) -> Result<bool, A
 {
     match read_program(alloc, text) {
         Ok(source) => Ok(wanted == Some(source.len())),
-        Err(TextError::Fault) => Ok(wanted.is_none()),
+        Err(TextError::Fault(_)) => Ok(wanted.is_none()),
         Err(TextError::NoMemory) => Err(AllocError),
     }
 }

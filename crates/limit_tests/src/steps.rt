@@ -55,7 +55,7 @@ fn tells(
 
 /// Whether one step more is refused.
 fn is_full(state: &mut State) -> bool {
-    apply(state, &merge_in(100_001)) == Err(Refusal::TooLarge(Limit::Steps))
+    apply(state, &merge_in(100_001)).err() == Some(Refusal::TooLarge(Limit::Steps))
 }
 
 #[test]

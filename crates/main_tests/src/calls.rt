@@ -9,7 +9,13 @@ const SCRIPT: &str = "map script 1.\nmerge 1 at 1,2.\n";
 
 const OUTPUT: &str = "p(V1) :- q(V1).\n";
 
-const USAGE: &str = "usage: map replay P S\n";
+const USAGE: &str = "usage: map replay P S | fill P S\n";
+
+const BAD_PROGRAM: &str = "bad program: byte 1: unexpected end\n";
+
+const LONG_PROGRAM: &str = "bad program: longer than 1048576 bytes\n";
+
+const LONG_SCRIPT: &str = "bad script: longer than 16777216 bytes\n";
 
 /// The status of a call, the name of the last failed load, and the text that was written.
 #[derive(Drop)]
@@ -91,7 +97,7 @@ fn is_answer(outcome: &Outcome, status: Status, written: &str) -> bool {
 /// Words between spaces, and the status and text that they must have where P and S are good.
 type Call = (&'static str, Status, &'static str);
 
-static CALLS: [Call; 15] = [
+static CALLS: [Call; 20] = [
     ("map replay P S", Status::Ok, OUTPUT),
     ("/bin/map replay P S", Status::Ok, OUTPUT),
     (" replay P S", Status::Ok, OUTPUT),
@@ -105,8 +111,29 @@ static CALLS: [Call; 15] = [
     ("map Replay P S", Status::Usage, USAGE),
     ("map replays P S", Status::Usage, USAGE),
     ("map replay  S", Status::ShelfFault, ""),
-    ("map replay P P", Status::BadScript, "bad script\n"),
-    ("map replay S S", Status::BadProgram, "bad program\n"),
+    (
+        "map replay P P",
+        Status::BadScript,
+        "bad script: byte 0: no version\n",
+    ),
+    (
+        "map replay S S",
+        Status::BadProgram,
+        "bad program: byte 4: unexpected\n",
+    ),
+    ("map fill P S", Status::Ok, SCRIPT),
+    ("map fill P", Status::Usage, USAGE),
+    ("map Fill P S", Status::Usage, USAGE),
+    (
+        "map fill P P",
+        Status::BadScript,
+        "bad script: byte 0: no version\n",
+    ),
+    (
+        "map fill S S",
+        Status::BadProgram,
+        "bad program: byte 4: unexpected\n",
+    ),
 ];
 
 fn is_answered(alloc: Global, wanted: &Call) -> Result<bool, AllocError> {
@@ -194,7 +221,7 @@ static CASES: [Case; 39] = [
         0,
         Status::BadProgram,
         "",
-        "bad program\n",
+        BAD_PROGRAM,
     ),
     (
         Some("p(X :- q."),
@@ -203,7 +230,7 @@ static CASES: [Case; 39] = [
         0,
         Status::BadProgram,
         "",
-        "bad program\n",
+        "bad program: byte 4: unexpected\n",
     ),
     (
         Some("true."),
@@ -212,16 +239,16 @@ static CASES: [Case; 39] = [
         0,
         Status::BadProgram,
         "",
-        "bad program\n",
+        "bad program: byte 0: reserved\n",
     ),
     (
-        Some("% p."),
+        Some("p :- X."),
         Some("map script 2."),
         0,
         0,
         Status::BadProgram,
         "",
-        "bad program\n",
+        "bad program: byte 5: not an atom\n",
     ),
     (
         Some(PROGRAM),
@@ -230,7 +257,7 @@ static CASES: [Case; 39] = [
         0,
         Status::BadScript,
         "",
-        "bad script\n",
+        "bad script: byte 0: unexpected end\n",
     ),
     (
         Some(PROGRAM),
@@ -239,7 +266,7 @@ static CASES: [Case; 39] = [
         0,
         Status::BadScript,
         "",
-        "bad script\n",
+        "bad script: byte 0: no version\n",
     ),
     (
         Some(PROGRAM),
@@ -248,7 +275,7 @@ static CASES: [Case; 39] = [
         0,
         Status::BadScript,
         "",
-        "bad script\n",
+        "bad script: byte 11: version\n",
     ),
     (
         Some(PROGRAM),
@@ -257,7 +284,7 @@ static CASES: [Case; 39] = [
         0,
         Status::BadScript,
         "",
-        "bad script\n",
+        "bad script: byte 42: unexpected end\n",
     ),
     // A refused step.
     (
@@ -378,15 +405,7 @@ static CASES: [Case; 39] = [
     // Neighbours in the order of the answers, both with cause.
     (None, None, 0, 1, Status::ShelfFault, "P", ""),
     (None, Some("p"), 0, 1, Status::ShelfFault, "P", ""),
-    (
-        Some("p"),
-        None,
-        0,
-        0,
-        Status::BadProgram,
-        "",
-        "bad program\n",
-    ),
+    (Some("p"), None, 0, 0, Status::BadProgram, "", BAD_PROGRAM),
     (Some("p"), Some(SCRIPT), 2, 1, Status::SinkFault, "", ""),
     (Some("p"), Some("p"), 2, 2, Status::SinkFault, "", "bad "),
     (Some(PROGRAM), Some("p"), 2, 1, Status::ShelfFault, "S", ""),
@@ -426,15 +445,78 @@ fn files_and_faults(rt: HostRuntime) -> Result<(), AllocError> {
     Ok(())
 }
 
+/// A program, a script, and what `fill` answers.
+type Filling = (&'static str, &'static str, Status, &'static str);
+
+static FILLINGS: [Filling; 7] = [
+    (
+        PROGRAM,
+        "map script 1. % no step\n",
+        Status::Ok,
+        "map script 1.\n",
+    ),
+    (
+        PROGRAM,
+        "map script 1. merge 01 at 1 , 2 .",
+        Status::Ok,
+        SCRIPT,
+    ),
+    (
+        "p(X) :- X < 1, X < 2.",
+        "map script 1. drop 1 row 2 show find.",
+        Status::Ok,
+        "map script 1.\ndrop 1 row 2 show [1,1].\n",
+    ),
+    (
+        "p(X,Y) :- X < Y, Y =< X.",
+        "map script 1. delete 1 false show find.",
+        Status::Ok,
+        "map script 1.\ndelete 1 false show [0,1,1].\n",
+    ),
+    (
+        "p(X,Y) :- X < Y, Y =< X.",
+        "map script 1. delete 1 false show [0,2,2].",
+        Status::Ok,
+        "map script 1.\ndelete 1 false show [0,2,2].\n",
+    ),
+    (
+        "p(X,Y) :- X =< Y, Y =< X.",
+        "map script 1. delete 1 false show find.",
+        Status::Refused,
+        "refused: step 1: 18 satisfiable\n",
+    ),
+    (
+        PROGRAM,
+        "map script 1. merge 1 at 1.",
+        Status::BadScript,
+        "bad script: byte 26: unexpected\n",
+    ),
+];
+
+fn fills_so(alloc: Global, case: &Filling) -> Result<bool, AllocError> {
+    let (program, script, status, written) = *case;
+    let files = files(alloc, Some(program.as_bytes()), Some(script.as_bytes()))?;
+    let outcome = call(alloc, "map fill P S", files, 0, 4, 0)?;
+    Ok(is_answer(&outcome, status, written))
+}
+
+#[test]
+fn filled_scripts(rt: HostRuntime) -> Result<(), AllocError> {
+    for (at, case) in FILLINGS.iter().enumerate() {
+        assert!(rt; fills_so(rt.alloc(), case)?, "case {at}");
+    }
+    Ok(())
+}
+
 /// Lengths of P and of S, each filled up with white, 0 where there is no S; and the answer.
 type LongCase = (usize, usize, Status, &'static str);
 
 static LENGTHS: [LongCase; 5] = [
     (1_048_576, 16_777_216, Status::Ok, OUTPUT),
-    (1_048_577, 99, Status::BadProgram, "bad program\n"),
-    (1_048_577, 16_777_217, Status::BadProgram, "bad program\n"),
-    (1_048_577, 0, Status::BadProgram, "bad program\n"),
-    (99, 16_777_217, Status::BadScript, "bad script\n"),
+    (1_048_577, 99, Status::BadProgram, LONG_PROGRAM),
+    (1_048_577, 16_777_217, Status::BadProgram, LONG_PROGRAM),
+    (1_048_577, 0, Status::BadProgram, LONG_PROGRAM),
+    (99, 16_777_217, Status::BadScript, LONG_SCRIPT),
 ];
 
 /// Files P and S of these lengths.

@@ -55,13 +55,9 @@ fn has_initial(state: &State, arity: u32) -> Result<bool, NoMemory> {
     Ok(state.is_initial(&Pred { name, arity }))
 }
 
-/// Whether a merge has this outcome, and the state is so after it.
-fn merges(
-    state: &mut State,
-    outcome: Result<Step, Refusal>,
-    wanted: &Seen,
-) -> Result<bool, NoMemory> {
-    Ok(apply(state, &merge_in(1)) == outcome && is_so(state, wanted)?)
+/// Whether a merge is accepted, or refused by this, and the state is so after it.
+fn merges(state: &mut State, refusal: Option<Refusal>, wanted: &Seen) -> Result<bool, NoMemory> {
+    Ok(apply(state, &merge_in(1)).err() == refusal && is_so(state, wanted)?)
 }
 
 /// The state after the merge.
@@ -78,8 +74,8 @@ fn has_entries(state: &State) -> bool {
 
 /// Whether the state tells what it should after the merge, and after a refusal the same.
 fn tells(state: &mut State) -> Result<bool, NoMemory> {
-    let merged = merges(state, Ok(merge_in(1)), &MERGED)?;
-    let refused = merges(state, Err(Refusal::NoClause(1)), &MERGED)?;
+    let merged = merges(state, None, &MERGED)?;
+    let refused = merges(state, Some(Refusal::NoClause(1)), &MERGED)?;
     let initials = has_initial(state, 1)? && !has_initial(state, 2)?;
     Ok(merged && refused && initials && has_entries(state))
 }
@@ -102,7 +98,7 @@ fn loaded(alloc: Global, program: &[u8]) -> Result<Loaded, ReplayFault>
 {
     let source = match read_program(alloc, program) {
         Ok(source) => source,
-        Err(TextError::Fault) => return Err(ReplayFault::Program),
+        Err(TextError::Fault(fault)) => return Err(ReplayFault::Program(fault)),
         Err(TextError::NoMemory) => return Err(ReplayFault::NoMemory),
     };
     match load(alloc, source.as_slice()) {
@@ -200,12 +196,21 @@ fn is_seen_once_committed(state: &mut State, change: Change) -> Result<bool, NoM
     Ok(unseen && is_so(state, after)?)
 }
 
+/// Whether a history is the merge of the first two atoms of the first clause, and no more.
+fn is_one_merge(history: &[Step]) -> bool {
+    match history.first() {
+        Some(Step::Merge { id, first, second }) => (*id, *first, *second) == (1, 1, 2)
+            && history.len() == 1,
+        _ => false,
+    }
+}
+
 /// Whether the last step and the clause that it made are those of the change.
 fn has_copy(state: &State) -> bool {
     match state.fetch(3) {
         Some(entry) => has_entry(state, &(3, true, false, 1))
             && entry.parents.as_slice() == [1].as_slice()
-            && state.history() == [merge_in(1)].as_slice(),
+            && is_one_merge(state.history()),
         None => false,
     }
 }

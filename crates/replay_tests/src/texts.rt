@@ -7,6 +7,8 @@ use map_replay::{Refusal, ReplayFault, print_program, refusal_text, replay};
 use std::alloc::Global;
 use std::test::Fail;
 use term_store::NoMemory;
+use text_fault::TextFault;
+use token_model::Kind;
 
 static REFUSALS: [(Refusal, &str); 4] = [
     (Refusal::NoAtom(4_294_967_295), "2 no atom 4294967295"),
@@ -43,8 +45,22 @@ static REPLAYS: [(&str, &str, Result<&str, ReplayFault>); 6] = [
         "map script 1. merge 1 at 1,2.",
         Err(ReplayFault::Refused(1, Refusal::NotEqualAtoms(1, 2))),
     ),
-    ("p :- X.", "map script 2.", Err(ReplayFault::Program)),
-    ("p.", "map script 2.", Err(ReplayFault::Script)),
+    (
+        "p :- X.",
+        "map script 2.",
+        Err(ReplayFault::Program(TextFault {
+            at: 5,
+            kind: Kind::NotAnAtom,
+        })),
+    ),
+    (
+        "p.",
+        "map script 2.",
+        Err(ReplayFault::Script(TextFault {
+            at: 11,
+            kind: Kind::Version,
+        })),
+    ),
 ];
 
 fn replayed(alloc: Global, program: &[u8], script: &[u8]) -> Result<String, ReplayFault>

@@ -1,6 +1,6 @@
 //! Start states of programs from texts, and what they print.
 
-use map_replay::{State, open_program, print_program};
+use map_replay::{State, Step, open_program, print_program};
 use std::alloc::Global;
 use term_store::NoMemory;
 
@@ -17,4 +17,12 @@ pub(crate) fn printed(alloc: Global, state: &State) -> Result<String, NoMemory> 
     let mut text = String::new(alloc);
     print_program(alloc, state, &mut text)?;
     Ok(text)
+}
+
+/// Whether a history is the unfolding of the first clause at its first atom, and no more.
+pub(crate) fn is_one_unfolding(history: &[Step]) -> bool {
+    match history.first() {
+        Some(Step::Unfold { id, at }) => (*id, *at) == (1, 1) && history.len() == 1,
+        _ => false,
+    }
 }

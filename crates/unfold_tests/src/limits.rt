@@ -93,7 +93,7 @@ fn ends_so(alloc: Global, state: &mut State, limit: Option<Limit>) -> Result<boo
     match limit {
         None => Ok(found.is_ok() && state.steps() == 1),
         Some(limit) => Ok(
-            found == Err(Refusal::TooLarge(limit))
+            found.err() == Some(Refusal::TooLarge(limit))
                 && printed(alloc, state)?.as_str() == before.as_str()
                 && state.history().is_empty(),
         ),

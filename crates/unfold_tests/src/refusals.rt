@@ -1,6 +1,6 @@
 //! Unfoldings that are refused: the state is as it was.
 
-use crate::building::{begun, printed};
+use crate::building::{begun, is_one_unfolding, printed};
 use map_replay::{Refusal, State, Step, apply};
 use std::alloc::Global;
 use std::test::Fail;
@@ -30,7 +30,7 @@ fn is_refused(
 ) -> Result<bool, NoMemory> {
     let before = printed(alloc, state)?;
     let counts = (state.steps(), state.next_id(), state.nodes());
-    let refused = apply(state, step) == Err(refusal);
+    let refused = apply(state, step).err() == Some(refusal);
     let after = printed(alloc, state)?;
     Ok(
         refused
@@ -68,7 +68,7 @@ fn refuses_dead(alloc: Global) -> Result<bool, NoMemory> {
     Ok(
         accepted
             && is_refused(alloc, &mut state, &step, Refusal::NoClause(1))?
-            && state.history() == [Step::Unfold { id: 1, at: 1 }].as_slice(),
+            && is_one_unfolding(state.history()),
     )
 }
 
