@@ -9,7 +9,7 @@ use Rattle.replay_tests.proofs.states.loaded.Goals as goal
 pub returns-in-Ok-load-clause-places : goal.returns-in-Ok-load-clause-places
 returns-in-Ok-load-clause-places c =
     let source = ap (λ (cs : List SourceClause). length cs) c.as_slice.ensures in
-    let few = c.in-Ok.ensures.readable.few in
+    let few = c.in-Ok.ensures.few in
     let l = loaded_places (map meaning_of c.as_slice.result.now) (program_of c.in-Ok-load.loaded) c.in-Ok-load.ensures.ok in
     let long = l.long in
     let count = length-map c.as_slice.result.now meaning_of in
