@@ -1,0 +1,5 @@
+pub mod Places
+pub mod Bound
+pub mod Apart
+pub mod Shown
+pub mod Accepted

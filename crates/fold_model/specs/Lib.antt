@@ -1,0 +1,4 @@
+pub mod Positions
+pub mod Images
+pub mod Internal
+pub mod Folded
