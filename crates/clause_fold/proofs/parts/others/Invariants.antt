@@ -1,0 +1,6 @@
+use Rattle.std.proofs.Common.{◌≡◌, suc, ◌++◌, drop}
+use Rattle.fold_model.specs.Positions as spec
+use Rattle.clause_fold.proofs.parts.others.Given as goal
+
+abbrev pub invariant-loop-i : goal.invariant-loop-i
+invariant-loop-i l = l.left ++ spec.others_from (suc l.i) l.positions (drop l.i l.terms) ≡ spec.others l.positions l.terms
