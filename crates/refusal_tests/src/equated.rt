@@ -10,9 +10,14 @@ const PROGRAM: &str = "p(X,Y) :- X =< Y, Y =< X, q(W).";
 
 const EQUATED: &str = "p(V1,V1) :- {num(V1)}, q(V2).\n";
 
-static CASES: [Case; 16] = [
+/// What is shown is the lesser variable less the greater, whichever takes the place of the other.
+static CASES: [Case; 17] = [
     ("equate 1 var 1 to 2 show [1,1,0]/[1,0,1].", Ok(EQUATED)),
-    ("equate 1 var 2 to 1 show [1,0,1]/[1,1,0].", Ok(EQUATED)),
+    ("equate 1 var 2 to 1 show [1,1,0]/[1,0,1].", Ok(EQUATED)),
+    (
+        "equate 1 var 2 to 1 show [1,0,1]/[1,1,0].",
+        Err(Refusal::BadMultipliers(1, CheckFault::NotConstant)),
+    ),
     ("equate 1 var 1 to 2 show find.", Ok(EQUATED)),
     ("equate 0 var 1 to 2 show find.", Err(Refusal::NoClause(0))),
     ("equate 2 var 9 to 9 show find.", Err(Refusal::NoClause(2))),
