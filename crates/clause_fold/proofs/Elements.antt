@@ -1,9 +1,10 @@
 -- The elements at positions, and the others, from a place on.
-use Rattle.std.proofs.Common.{◌≡◌, ℕ, suc, ◌+◌, ◌-◌, ◌<◌, ◌≤◌, List, [], ◌∷◌, ◌++◌, length, drop, get_or, Bool, true, false, ◌&&◌, Some, None, refl, ap, ◌∙◌, sym, add-one, if◌then◌else◌}
+use Rattle.std.proofs.Common.{◌≡◌, ℕ, suc, ◌+◌, ◌-◌, ◌<◌, ◌≤◌, List, [], ◌∷◌, ◌++◌, length, drop, get_or, Bool, true, false, Some, None, refl, ap, ◌∙◌, sym, add-one, if◌then◌else◌}
 use Rattle.std.specs.Prelude.{nat_lt, nat_le, slice_index_or}
 use Rattle.std.proofs.lemmas.Bool.{ltb-true, leb-true}
 use Rattle.std.proofs.lemmas.List.{append_assoc}
 use Rattle.std.proofs.Math.Seq.{drop-cons}
+use Rattle.unify_laws.proofs.Variables.{both}
 use Rattle.fold_model.specs.Positions.{in_range, first_outside, is_in, at_positions, chosen_from, others_from, replaced_from}
 use Rattle.clause_fold.proofs.Walks.{outside_from}
 
@@ -18,10 +19,6 @@ inside_at count ps i d within none = by (in_range count (get_or ps i d)) refl (s
   where
     p : ℕ
     p = get_or ps i d
-
-    both : (a b : Bool) → (a && b) ≡ true → (a ≡ true) × (b ≡ true)
-    both true b h = (refl, h)
-    both false b h = absurd (cc (h))
 
     by : (b : Bool) → in_range count p ≡ b → (if b then first_outside count (drop (i + 1) ps) else Some p) ≡ None → IsInside count ps i p
     by true e h = let r = both (nat_lt 0 p) (nat_le p count) e in record { positive = ltb-true 0 p r.0; within = leb-true p count r.1; rest = h }

@@ -19,7 +19,7 @@ use Rattle.rule_laws.specs.Steps.{IsHeld}
 use Rattle.rule_laws.specs.Folding.{IsInternal, KeepsInternal, IsFolded}
 use Rattle.rule_laws.specs.Folding as rank
 use Rattle.fold_laws.specs.Laws.{IsAccepted}
-use Rattle.fold_laws.proofs.Places.{taken_at, removed_replaced, chosen_old}
+use Rattle.fold_laws.proofs.Places.{inside, taken_at, removed_replaced, chosen_old}
 use Rattle.fold_laws.proofs.Bound.{in_is, is_then_in, not_in, numbers_have, respects, atoms_are}
 use Rattle.fold_laws.proofs.Apart.{StaysApart, each_apart, each_own, variable_image}
 use Rattle.fold_laws.proofs.Shown.{same_number, entailed, dropped}
@@ -42,11 +42,8 @@ module _ (n c : Clause) (at with keep : List ℕ) (bs : List Binding) (hn : IsHe
   first_position [] o l = absurd (omega (arith, l))
   first_position (p ∷ ps) o l = by (in_range (length c.body) p) refl o
     where
-      inside : (b : Bool) → in_range (length c.body) p ≡ b → b ≡ true → (1 ≤ p) × (p ≤ length c.body)
-      inside b e t = grind arith
-
       by : (b : Bool) → in_range (length c.body) p ≡ b → (if b then first_outside (length c.body) ps else Some p) ≡ None → (k : ℕ) × (1 ≤ k) × (k ≤ length c.body) × (is_in (p ∷ ps) k ≡ true)
-      by true e o = let r = inside true e refl in (p, r.0, r.1, is_then_in (p ∷ ps) p first)
+      by true e o = let r = inside (length c.body) p true e refl in (p, r.0, r.1, is_then_in (p ∷ ps) p first)
       by false e o = absurd (cc)
 
   put : Removed (substituted s n.head) (replaced (substituted s n.head) at c.body) rest

@@ -2,21 +2,22 @@
 use Rattle.std.proofs.Common.{◌≡◌, ℕ, List, [], ◌∷◌, refl, sym, ◌∙◌, ap, subst, Bool, true, false, Some, None}
 use Rattle.std.specs.Prelude.{nat_eq, not, ◌&&◌, ◌||◌, if◌then◌else◌}
 use Rattle.clp_model.specs.declared.sort.Sort.{Sort}
-use Rattle.clp_model.specs.declared.sort.Sort.TheVariants.{Any, Num}
+use Rattle.clp_model.specs.declared.tree.Variable.{Variable}
 use Rattle.clp_model.specs.declared.tree.Tree.{Tree, Var, App'}
 use Rattle.clp_model.specs.Clauses.{Clause, sort_in}
 use Rattle.clp_model.proofs.Membership.{Among, first}
 use Rattle.unify_model.specs.Substituting.{same_sort}
+use Rattle.unify_laws.proofs.Variables.{same_is}
 use Rattle.unify_laws.proofs.Solved.{among_cases}
 use Rattle.fold_model.specs.Positions.{is_in}
 use Rattle.fold_model.specs.Internal.{number_in, is_variable_of, is_apart, first_lost}
 use Rattle.fold_laws.proofs.Bound.{is_then_in}
 
+abbrev of_sort : Sort → Variable
+of_sort k = record { number = 0; sort = k }
+
 same_sort_is : (s r : Sort) → same_sort s r ≡ true → s ≡ r
-same_sort_is Any Any h = refl
-same_sort_is Num Num h = refl
-same_sort_is Any Num h = absurd (cc)
-same_sort_is Num Any h = absurd (cc)
+same_sort_is s r h = ap (λ (v : Variable). v.sort) (same_is (of_sort s) (of_sort r) h)
 
 and_parts : (a b : Bool) → (a && not b) ≡ true → (a ≡ true) × (b ≡ false)
 and_parts true false h = (refl, refl)

@@ -1,6 +1,6 @@
 -- What the variables of a definition become.
 use Rattle.std.proofs.Common.{◌≡◌, ℕ, zero, suc, ◌+◌, ◌<◌, ◌≤◌, List, [], ◌∷◌, ◌++◌, map, length, arith, refl, sym, ◌∙◌, ap, subst, Bool, true, false, inl, inr, Some, None}
-use Rattle.std.specs.Prelude.{nat_eq, not, ◌&&◌, if◌then◌else◌, slice_index_or}
+use Rattle.std.specs.Prelude.{nat_eq, not, if◌then◌else◌, slice_index_or}
 use Rattle.std.proofs.lemmas.Bool.{eqb-true}
 use Rattle.clp_model.specs.declared.sort.Sort.{Sort}
 use Rattle.clp_model.specs.declared.sort.Sort.TheVariants.{Any, Num}
@@ -13,7 +13,7 @@ use Rattle.clp_model.proofs.RenamedTrees.{all_variables_mapped, all_mapped_twice
 use Rattle.linear_laws.proofs.Lists.{filter_in, filter_out, mapped_out}
 use Rattle.unify_model.specs.Substituting.{substituted, substituted_row, substituted_all, same_variable, Binding}
 use Rattle.unify_model.specs.Matching.{takes, is_number, image_at_once, IsMatching}
-use Rattle.unify_laws.proofs.Variables.{same_is, same_itself}
+use Rattle.unify_laws.proofs.Variables.{both, same_is, same_itself}
 use Rattle.unify_laws.proofs.Substituted.{substituted_agrees}
 use Rattle.unify_laws.proofs.Matchings.{matched_is}
 use Rattle.unify_laws.proofs.Solved.{among_cases}
@@ -62,10 +62,6 @@ not_false true e = absurd (cc)
 is_the_number : (k : Sort) → is_num k ≡ true → k ≡ Num
 is_the_number Num e = refl
 is_the_number Any e = absurd (cc)
-
-both_second : (a b : Bool) → (a && b) ≡ true → b ≡ true
-both_second true b e = e
-both_second false b e = absurd (cc)
 
 -- ---- variables of what is put in
 mutual
@@ -133,7 +129,7 @@ module _ (n c : Clause) (bs : List Binding) where
     where
       at : Again place xs ys x → is_number_of c y ≡ true → first_no_number c (suc place) ys ≡ None → (b : Bool) → same_variable (typed_variable n.sorts z) (typed_variable n.sorts x) ≡ b
           → IsNamed x (if b then Var (typed_variable c.sorts y) else image_at_once (named_bindings n c xs ys ++ bs) (typed_variable n.sorts x))
-      at again k e true i = (y, refl, is_the_number (sort_in c.sorts y) (both_second (in_range (length c.sorts) y) (is_num (sort_in c.sorts y)) k))
+      at again k e true i = (y, refl, is_the_number (sort_in c.sorts y) (both (in_range (length c.sorts) y) (is_num (sort_in c.sorts y)) k).1)
       at again k e false i = among_cases a
           (λ q. absurd (let t = same_itself (typed_variable n.sorts x) in let u = ap (λ z. same_variable (typed_variable n.sorts z) (typed_variable n.sorts x)) q in cc))
           (λ m. again e m)

@@ -55,7 +55,7 @@ abbrev pub all_positions : List ℕ → List ℕ → List ℕ
 all_positions before [] = before
 all_positions before (p ∷ ps) = all_positions (p ∷ before) ps
 
-inside : (count p : ℕ) (b : Bool) → in_range count p ≡ b → b ≡ true → (1 ≤ p) × (p ≤ count)
+pub inside : (count p : ℕ) (b : Bool) → in_range count p ≡ b → b ≡ true → (1 ≤ p) × (p ≤ count)
 inside count p b e t = grind arith
 
 -- the elements at distinct positions are taken out, one after another
