@@ -2,6 +2,8 @@
 use Rattle.std.specs.Prelude.{ℕ, List, [], ◌++◌, codes, decimal}
 use Rattle.clp_model.specs.declared.limit.Limit.{Limit}
 use Rattle.clp_model.specs.declared.limit.Limit.TheVariants.{Shape, Atoms, Variables, Rows, Clauses, Nodes, Steps, Chain}
+use Rattle.clp_model.specs.declared.predicate.Pred.{Pred}
+use Rattle.clause_store.specs.Names.{name_text}
 use Rattle.farkas_check.specs.declared.fault.CheckFault.{CheckFault}
 use Rattle.farkas_check.specs.declared.fault.CheckFault.TheVariants.{Form, Count, Negative, NotConstant, WrongSign}
 use Rattle.case_table.specs.declared.limit_word.LimitWord.{LimitWord}
@@ -14,7 +16,7 @@ use Rattle.case_table.specs.Limits.{limit_word}
 use Rattle.case_table.specs.Faults.{fault_word}
 use Rattle.case_table.specs.Refusals.{refusal_word}
 use Rattle.map_model.specs.declared.refusal.Refusal.{Refusal}
-use Rattle.map_model.specs.declared.refusal.Refusal.TheVariants.{NoClause, NoAtom, NoRow, RepeatedPosition, LooseVariable, Unentailed, BadMultipliers, Satisfiable, StillUsed, NotEqualAtoms, NotNumber, Overflow, TooLarge, NoMemory}
+use Rattle.map_model.specs.declared.refusal.Refusal.TheVariants.{NoClause, NoAtom, NoRow, RepeatedPosition, NotFresh, HeadNotVariables, EmptyDefinition, RecursiveDefinition, UnknownPredicate, LooseVariable, Unmarked, NoDefinition, NoMatch, BadWith, LostVariable, Unentailed, BadMultipliers, Satisfiable, StillUsed, NotEqualAtoms, NotNumber, Overflow, TooLarge, NoMemory}
 
 -- a limit as a case of the table of their words
 abbrev pub limit_case : Limit → LimitWord
@@ -45,7 +47,17 @@ refusal_number (NoClause id) = 1
 refusal_number (NoAtom position) = 2
 refusal_number (NoRow position) = 3
 refusal_number (RepeatedPosition position) = 4
+refusal_number (NotFresh p) = 5
+refusal_number (HeadNotVariables argument) = 6
+refusal_number EmptyDefinition = 7
+refusal_number (RecursiveDefinition p) = 8
+refusal_number (UnknownPredicate p) = 9
 refusal_number (LooseVariable variable) = 10
+refusal_number (Unmarked id) = 11
+refusal_number (NoDefinition p) = 12
+refusal_number NoMatch = 13
+refusal_number (BadWith place) = 14
+refusal_number (LostVariable variable) = 15
 refusal_number (Unentailed place) = 16
 refusal_number (BadMultipliers place fault) = 17
 refusal_number Satisfiable = 18
@@ -62,7 +74,17 @@ refusal_case (NoClause id) = word.NoClause
 refusal_case (NoAtom position) = word.NoAtom
 refusal_case (NoRow position) = word.NoRow
 refusal_case (RepeatedPosition position) = word.RepeatedPosition
+refusal_case (NotFresh p) = word.NotFresh
+refusal_case (HeadNotVariables argument) = word.HeadNotVariables
+refusal_case EmptyDefinition = word.EmptyDefinition
+refusal_case (RecursiveDefinition p) = word.RecursiveDefinition
+refusal_case (UnknownPredicate p) = word.UnknownPredicate
 refusal_case (LooseVariable variable) = word.LooseVariable
+refusal_case (Unmarked id) = word.Unmarked
+refusal_case (NoDefinition p) = word.NoDefinition
+refusal_case NoMatch = word.NoMatch
+refusal_case (BadWith place) = word.BadWith
+refusal_case (LostVariable variable) = word.LostVariable
 refusal_case (Unentailed place) = word.Unentailed
 refusal_case (BadMultipliers place fault) = word.BadMultipliers
 refusal_case Satisfiable = word.Satisfiable
@@ -73,13 +95,27 @@ refusal_case (Overflow place) = word.Overflow
 refusal_case (TooLarge limit) = word.TooLarge
 refusal_case NoMemory = word.NoMemory
 
+-- a predicate: its name, as it is printed, and how many arguments it has
+abbrev pub pred_text : Pred → List ℕ
+pred_text p = name_text p.name ++ codes "/" ++ decimal p.arity
+
 -- the fields, each after a space
 abbrev pub refusal_fields : Refusal → List ℕ
 refusal_fields (NoClause id) = codes " " ++ decimal id
 refusal_fields (NoAtom position) = codes " " ++ decimal position
 refusal_fields (NoRow position) = codes " " ++ decimal position
 refusal_fields (RepeatedPosition position) = codes " " ++ decimal position
+refusal_fields (NotFresh p) = codes " " ++ pred_text p
+refusal_fields (HeadNotVariables argument) = codes " " ++ decimal argument
+refusal_fields EmptyDefinition = []
+refusal_fields (RecursiveDefinition p) = codes " " ++ pred_text p
+refusal_fields (UnknownPredicate p) = codes " " ++ pred_text p
 refusal_fields (LooseVariable variable) = codes " " ++ decimal variable
+refusal_fields (Unmarked id) = codes " " ++ decimal id
+refusal_fields (NoDefinition p) = codes " " ++ pred_text p
+refusal_fields NoMatch = []
+refusal_fields (BadWith place) = codes " " ++ decimal place
+refusal_fields (LostVariable variable) = codes " " ++ decimal variable
 refusal_fields (Unentailed place) = codes " " ++ decimal place
 refusal_fields (BadMultipliers place fault) = codes " " ++ decimal place ++ codes " " ++ fault_word (check_case fault)
 refusal_fields Satisfiable = []

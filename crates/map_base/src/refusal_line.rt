@@ -4,7 +4,8 @@ ghost use Rattle.std.specs.Prelude.{◌≡◌, ◌++◌, OnOk, OnErr, string_byt
 ghost use Rattle.map_base.specs.Refusals as spec;
 
 use case_table::{Cases, FaultWord, LimitWord, RefusalWord};
-use clp_model::Limit;
+use clause_store::name_text;
+use clp_model::{Limit, Pred};
 use farkas_check::CheckFault;
 use itoa::Buffer;
 use map_model::Refusal;
@@ -20,7 +21,17 @@ pub fn refusal_number(refusal: &Refusal) -> u32
         Refusal::NoAtom(_) => 2,
         Refusal::NoRow(_) => 3,
         Refusal::RepeatedPosition(_) => 4,
+        Refusal::NotFresh(_) => 5,
+        Refusal::HeadNotVariables(_) => 6,
+        Refusal::EmptyDefinition => 7,
+        Refusal::RecursiveDefinition(_) => 8,
+        Refusal::UnknownPredicate(_) => 9,
         Refusal::LooseVariable(_) => 10,
+        Refusal::Unmarked(_) => 11,
+        Refusal::NoDefinition(_) => 12,
+        Refusal::NoMatch => 13,
+        Refusal::BadWith(_) => 14,
+        Refusal::LostVariable(_) => 15,
         Refusal::Unentailed(_) => 16,
         Refusal::BadMultipliers(_, _) => 17,
         Refusal::Satisfiable => 18,
@@ -42,7 +53,17 @@ fn refusal_case(refusal: &Refusal) -> RefusalWord
         Refusal::NoAtom(_) => RefusalWord::NoAtom,
         Refusal::NoRow(_) => RefusalWord::NoRow,
         Refusal::RepeatedPosition(_) => RefusalWord::RepeatedPosition,
+        Refusal::NotFresh(_) => RefusalWord::NotFresh,
+        Refusal::HeadNotVariables(_) => RefusalWord::HeadNotVariables,
+        Refusal::EmptyDefinition => RefusalWord::EmptyDefinition,
+        Refusal::RecursiveDefinition(_) => RefusalWord::RecursiveDefinition,
+        Refusal::UnknownPredicate(_) => RefusalWord::UnknownPredicate,
         Refusal::LooseVariable(_) => RefusalWord::LooseVariable,
+        Refusal::Unmarked(_) => RefusalWord::Unmarked,
+        Refusal::NoDefinition(_) => RefusalWord::NoDefinition,
+        Refusal::NoMatch => RefusalWord::NoMatch,
+        Refusal::BadWith(_) => RefusalWord::BadWith,
+        Refusal::LostVariable(_) => RefusalWord::LostVariable,
         Refusal::Unentailed(_) => RefusalWord::Unentailed,
         Refusal::BadMultipliers(_, _) => RefusalWord::BadMultipliers,
         Refusal::Satisfiable => RefusalWord::Satisfiable,
@@ -107,7 +128,17 @@ fn push_word(word: &str, into: &mut String) -> Result<(), NoMemory>
     Ok(())
 }
 
-fn push_fields(refusal: &Refusal, into: &mut String) -> Result<(), NoMemory>
+fn push_pred(alloc: Global, pred: &Pred, into: &mut String) -> Result<(), NoMemory>
+    ensures { OnOk result (string_bytes into.new ≡ string_bytes into.old ++ codes " " ++ spec.pred_text pred.now) }
+{
+    into.push_str(" ")?;
+    name_text(alloc, pred.name.as_str(), into)?;
+    into.push_str("/")?;
+    into.push_str(Buffer::new().format(pred.arity))?;
+    Ok(())
+}
+
+fn push_fields(alloc: Global, refusal: &Refusal, into: &mut String) -> Result<(), NoMemory>
     ensures { OnOk result (string_bytes into.new ≡ string_bytes into.old ++ spec.refusal_fields refusal.now) }
 {
     match refusal {
@@ -115,11 +146,19 @@ fn push_fields(refusal: &Refusal, into: &mut String) -> Result<(), NoMemory>
         | Refusal::NoAtom(number)
         | Refusal::NoRow(number)
         | Refusal::RepeatedPosition(number)
+        | Refusal::HeadNotVariables(number)
         | Refusal::LooseVariable(number)
+        | Refusal::Unmarked(number)
+        | Refusal::BadWith(number)
+        | Refusal::LostVariable(number)
         | Refusal::Unentailed(number)
         | Refusal::StillUsed(number)
         | Refusal::NotNumber(number)
         | Refusal::Overflow(number) => push_number(*number, into),
+        Refusal::NotFresh(pred)
+        | Refusal::RecursiveDefinition(pred)
+        | Refusal::UnknownPredicate(pred)
+        | Refusal::NoDefinition(pred) => push_pred(alloc, pred, into),
         Refusal::BadMultipliers(place, fault) => {
             push_number(*place, into)?;
             push_word(check_case(*fault).word_of(), into)
@@ -129,7 +168,8 @@ fn push_fields(refusal: &Refusal, into: &mut String) -> Result<(), NoMemory>
             push_number(*second, into)
         }
         Refusal::TooLarge(limit) => push_word(limit_text(*limit), into),
-        Refusal::Satisfiable | Refusal::NoMemory => Ok(()),
+        Refusal::EmptyDefinition | Refusal::NoMatch | Refusal::Satisfiable | Refusal::NoMemory =>
+            Ok(()),
     }
 }
 
@@ -146,7 +186,7 @@ pub fn refusal_text(alloc: Global, refusal: &Refusal, into: &mut String) -> Resu
     text.push_str(Buffer::new().format(refusal_number(refusal)))?;
     text.push_str(" ")?;
     text.push_str(refusal_case(refusal).word_of())?;
-    push_fields(refusal, &mut text)?;
+    push_fields(alloc, refusal, &mut text)?;
     into.push_str(text.as_str())?;
     Ok(())
 }

@@ -2,18 +2,22 @@
 use Rattle.std.specs.Prelude.{ℕ, suc, List, [], ◌∷◌, length, Result, Ok, Err, nat_le, if◌then◌else◌}
 use Rattle.clp_model.specs.declared.limit.Limit.TheVariants.{Steps}
 use Rattle.map_model.specs.declared.step.Step.{Step}
-use Rattle.map_model.specs.declared.step.Step.TheVariants.{Unfold, DeleteFalse, Merge, Add, Drop, Project, Equate}
+use Rattle.map_model.specs.declared.step.Step.TheVariants.{Define, Unfold, Fold, DeleteFalse, Merge, Add, Drop, Project, Equate}
 use Rattle.map_model.specs.declared.refusal.Refusal.{Refusal}
 use Rattle.map_model.specs.declared.refusal.Refusal.TheVariants.{TooLarge}
 use Rattle.map_model.specs.State.{State}
+use Rattle.map_model.specs.Defining.{define_after}
 use Rattle.map_model.specs.Unfolding.{unfold_after}
+use Rattle.map_model.specs.Folding.{fold_after}
 use Rattle.map_model.specs.Merging.{merge_after}
 use Rattle.map_model.specs.Deleting.{delete_false_after}
 use Rattle.map_model.specs.Replacing.{add_after, drop_after, project_after, equate_after}
 
 -- the state after a step by its rule, where there may be one step more
 abbrev pub by_rule : State → Step → Result State Refusal
+by_rule s (Define source) = define_after s source
 by_rule s (Unfold id at) = unfold_after s id at
+by_rule s (Fold id at by with keep show) = fold_after s id at by with keep show
 by_rule s (DeleteFalse id show) = delete_false_after s id show
 by_rule s (Merge id first second) = merge_after s id first second
 by_rule s (Add id row show) = add_after s id row show

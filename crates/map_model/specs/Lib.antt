@@ -1,9 +1,15 @@
 pub mod SameTree
 pub mod State
+pub mod WellFormed
 pub mod Rewriting
+pub mod Defining
 pub mod Unfolding
 pub mod Merging
 pub mod Showing
+pub mod ShowingAll
 pub mod Deleting
 pub mod Replacing
+pub mod Folding
+pub mod FormedSteps
+pub mod Defined
 pub mod After

@@ -1,7 +1,8 @@
 -- merge C at I,J: of two equal atoms the second goes.
-use Rattle.std.specs.Prelude.{ℕ, ◌-◌, ◌&&◌, not, Bool, List, [], ◌∷◌, length, slice_index_or, Option, Some, None, Result, Err, nat_eq, nat_lt, nat_le, if◌then◌else◌}
+use Rattle.std.specs.Prelude.{ℕ, ◌-◌, not, List, [], ◌∷◌, length, slice_index_or, Option, Some, None, Result, Err, nat_eq, if◌then◌else◌}
 use Rattle.clp_model.specs.declared.tree.Tree.{Tree, Var}
 use Rattle.clp_meaning.specs.Laws.{without_atom}
+use Rattle.fold_model.specs.Positions.{in_range}
 use Rattle.map_model.specs.declared.step.Step.TheVariants.{Merge}
 use Rattle.map_model.specs.declared.refusal.Refusal.{Refusal}
 use Rattle.map_model.specs.declared.refusal.Refusal.TheVariants.{NoClause, NoAtom, RepeatedPosition, NotEqualAtoms}
@@ -9,11 +10,7 @@ use Rattle.map_model.specs.State.{Entry, State, live_at}
 use Rattle.map_model.specs.Rewriting.{Draft, rewritten, unless_broken}
 use Rattle.map_model.specs.SameTree.{same_tree}
 
--- positions count from 1
-abbrev pub in_range : ℕ → ℕ → Bool
-in_range count position = nat_lt 0 position && nat_le position count
-
--- the atom at this position
+-- the atom at this position; positions count from 1
 abbrev pub atom_of : List (Tree ℕ) → ℕ → Tree ℕ
 atom_of atoms position = slice_index_or atoms (position - 1) (Var 0)
 

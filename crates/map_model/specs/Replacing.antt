@@ -7,7 +7,6 @@ use Rattle.clp_model.specs.declared.sort.Rel.TheVariants.{Eq}
 use Rattle.clp_model.specs.declared.limit.Limit.TheVariants.{Rows}
 use Rattle.clp_model.specs.Clauses.{Clause, Row, sort_in}
 use Rattle.clp_model.specs.Trees.{variables_in}
-use Rattle.linear_model.specs.Forms.{IsRising}
 use Rattle.linear_model.specs.Elimination.{elimination}
 use Rattle.elim_rows.specs.Made.{made, all_within}
 use Rattle.replace_model.specs.Rows.{with_row, without_row, projected, equated, equation_of}
@@ -19,8 +18,8 @@ use Rattle.map_model.specs.declared.step.Step.TheVariants.{Add, Drop, Project, E
 use Rattle.map_model.specs.declared.refusal.Refusal.{Refusal}
 use Rattle.map_model.specs.declared.refusal.Refusal.TheVariants.{NoClause, NoRow, RepeatedPosition, LooseVariable, StillUsed, NotNumber, Overflow, TooLarge}
 use Rattle.map_model.specs.State.{Entry, State, live_at}
-use Rattle.map_model.specs.Rewriting.{rewritten, unless_broken}
-use Rattle.map_model.specs.Merging.{in_range}
+use Rattle.map_model.specs.Rewriting.{rewritten, unless_broken, or_next}
+use Rattle.fold_model.specs.Positions.{in_range}
 use Rattle.map_model.specs.Showing.{shown_by}
 
 -- ---- variables
@@ -36,11 +35,6 @@ loose c v = if in_range (length c.sorts) v then None else Some (LooseVariable v)
 -- the variable stands for any value
 abbrev pub not_number : Clause → ℕ → Option Refusal
 not_number c v = if is_number (sort_in c.sorts v) then None else Some (NotNumber v)
-
--- the first of two refusals
-abbrev pub or_next : Option Refusal → Option Refusal → Option Refusal
-or_next (Some refusal) next = Some refusal
-or_next None next = next
 
 -- the first of a row's variables that the clause doesn't have or that stands for any value
 abbrev pub variables_broken : Clause → List (ℕ × ℤ) → Option Refusal
@@ -132,10 +126,3 @@ equate_in s id v u show e =
 -- the state after `equate C var V to U show ..`, or its first broken condition
 abbrev pub equate_after : State → ℕ → ℕ → ℕ → Shown → Result State Refusal
 equate_after s id v u show = for_entry id (equate_in s id v u show) (live_at s id)
-
--- ---- what is asked of a step that is given
-
--- the variables of a row that is added rise, and none has coefficient 0
-abbrev pub HasRisingRow : Step → Type 0
-HasRisingRow (Add id row show) = IsRising row.pairs
-HasRisingRow _ = Unit {0}

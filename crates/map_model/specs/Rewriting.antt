@@ -106,3 +106,8 @@ rewritten s r = replaced_by s r (new_entries (length s.steps + 1) r.made)
 abbrev pub unless_broken : Option Refusal → Result State Refusal → Result State Refusal
 unless_broken None next = next
 unless_broken (Some refusal) next = Err refusal
+
+-- the first of two refusals
+abbrev pub or_next : Option Refusal → Option Refusal → Option Refusal
+or_next (Some refusal) next = Some refusal
+or_next None next = next

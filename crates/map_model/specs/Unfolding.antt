@@ -7,7 +7,7 @@ use Rattle.map_model.specs.declared.refusal.Refusal.{Refusal}
 use Rattle.map_model.specs.declared.refusal.Refusal.TheVariants.{NoClause, NoAtom}
 use Rattle.map_model.specs.State.{Entry, State, live_at}
 use Rattle.map_model.specs.Rewriting.{Draft, rewritten}
-use Rattle.map_model.specs.Merging.{in_range}
+use Rattle.fold_model.specs.Positions.{in_range}
 
 -- a resolvent of the clause `id` with the clause `by`, marked, if there is one
 abbrev pub drafted : ℕ → ℕ → Option Clause → List Draft

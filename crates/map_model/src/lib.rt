@@ -9,5 +9,5 @@ mod shown;
 mod step;
 
 pub use refusal::Refusal;
-pub use shown::Shown;
+pub use shown::{Shown, Shows};
 pub use step::Step;

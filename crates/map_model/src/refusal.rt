@@ -1,13 +1,13 @@
 ghost use Rattle.std.specs.Prelude.{◌≡◌};
 ghost use Rattle.map_model.specs.declared.refusal.Refusal.TheVariants.{NoMemory};
 
-use clp_model::Limit;
+use clp_model::{Limit, Pred};
 use farkas_check::CheckFault;
 use std::alloc::AllocError;
 use term_store::NoMemory;
 
 /// Why a step is refused: its first broken condition. Positions count from 1.
-#[derive(Clone, Copy, Debug, PartialEq, Eq)]
+#[derive(Debug, Drop)]
 pub enum Refusal {
     /// The clause with this id isn't live.
     NoClause(u32),
@@ -17,11 +17,31 @@ pub enum Refusal {
     NoRow(u32),
     /// This position, or this variable, is given twice.
     RepeatedPosition(u32),
-    /// The clause has no such variable.
+    /// The predicate that is to be defined occurs in the program, or has a definition.
+    NotFresh(Pred),
+    /// The argument of the definition's head at this place is no variable, or is one that stands before.
+    HeadNotVariables(u32),
+    /// The definition has no atom, or nothing solves its equations.
+    EmptyDefinition,
+    /// This predicate of the definition's body is its own, or has a definition.
+    RecursiveDefinition(Pred),
+    /// This predicate neither occurs in the program nor has a definition.
+    UnknownPredicate(Pred),
+    /// The clause has no such variable; or the variable of a definition is in its head alone or in rows alone.
     LooseVariable(u32),
+    /// The clause with this id is unmarked: it is a definition that wasn't unfolded.
+    Unmarked(u32),
+    /// The predicate has no definition.
+    NoDefinition(Pred),
+    /// The atoms at the positions are no instance of the definition's.
+    NoMatch,
+    /// The number at this place is not that of a Num variable of the clause; 0 where there are too many or too few.
+    BadWith(u32),
+    /// The image of this internal variable of the definition is not a variable of its own.
+    LostVariable(u32),
     /// The row at this place among those to be shown isn't entailed.
     Unentailed(u32),
-    /// The certificate at this place among the rows to be shown is wrong.
+    /// The certificate at this place among the rows to be shown is wrong; at place 0, there are too many or too few.
     BadMultipliers(u32, CheckFault),
     /// The rows have a common solution.
     Satisfiable,

@@ -1,7 +1,10 @@
 ghost use Rattle.std.specs.Prelude.{◌≡◌, IfOk};
 
-use crate::shown::Shown;
+use crate::shown::{Shown, Shows};
+use clause_store::SourceClause;
+use clp_model::Pred;
 use lin_row::Row;
+use sqlite_items::Items;
 use std::alloc::Global;
 use term_store::NoMemory;
 
@@ -9,10 +12,25 @@ use term_store::NoMemory;
 /// variables are those of the clause.
 #[derive(Drop)]
 pub enum Step {
+    /// `define H :- B`: the clause is the definition of a fresh predicate, and joins the program.
+    Define {
+        source: SourceClause,
+    },
     /// `unfold C at I`: a clause is replaced by its resolvents, at an atom of its body, with all live clauses.
     Unfold {
         id: u32,
         at: u32,
+    },
+    /// `fold C at [I,..] by P with [V,..] keep [J,..] show ..`: an atom of the defined predicate takes the place of
+    /// atoms that are an instance of its definition's; `with` has the images of the variables that are in none of
+    /// these, and the rows of the clause but those at the positions `keep` are dropped.
+    Fold {
+        id: u32,
+        at: Items<u32>,
+        by: Pred,
+        with: Items<u32>,
+        keep: Items<u32>,
+        show: Shows,
     },
     /// `delete C false show ..`: a clause is removed whose rows have no common solution.
     DeleteFalse {
@@ -67,7 +85,25 @@ impl Step {
         ensures { IfOk result (λ step. step ≡ self.now) }
     {
         Ok(match self {
+            Step::Define { source } => Step::Define {
+                source: source.copy(alloc)?,
+            },
             Step::Unfold { id, at } => Step::Unfold { id: *id, at: *at },
+            Step::Fold {
+                id,
+                at,
+                by,
+                with,
+                keep,
+                show,
+            } => Step::Fold {
+                id: *id,
+                at: Items::from_slice(alloc, at.as_slice())?,
+                by: by.copy(alloc)?,
+                with: Items::from_slice(alloc, with.as_slice())?,
+                keep: Items::from_slice(alloc, keep.as_slice())?,
+                show: show.copy(alloc)?,
+            },
             Step::DeleteFalse { id, show } => Step::DeleteFalse {
                 id: *id,
                 show: show.copy(alloc)?,

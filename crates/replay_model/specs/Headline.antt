@@ -1,31 +1,15 @@
 -- The headline: what is provable from the program that is written.
-use Rattle.std.specs.Prelude.{◌≡◌, ◌↔◌, ℕ, List, [], ◌∷◌, ◌++◌, map, Contains, Ok}
+use Rattle.std.specs.Prelude.{◌≡◌, ◌↔◌, ℕ, List, ◌++◌, map, Contains, Ok}
 use Rattle.clause_store.specs.declared.source.SourceClause.{SourceClause}
 use Rattle.clp_model.specs.Values.{GroundAtom}
-use Rattle.clp_model.specs.Clauses.{Clause}
 use Rattle.clause_store.specs.Source.{meaning_of}
 use Rattle.clp_model.specs.Proof.{Provable}
 use Rattle.clp_model.specs.Predicates.{ground_predicate, predicate_of, program_predicates}
 use Rattle.clp_grammar.specs.Grammar.{program}
 use Rattle.clause_model.specs.Load.{Program, load}
 use Rattle.map_model.specs.declared.step.Step.{Step}
-use Rattle.map_model.specs.declared.step.Step.TheVariants.{Unfold, DeleteFalse, Merge, Add, Drop, Project, Equate}
+use Rattle.map_model.specs.Defined.{definitions_of}
 use Rattle.script_grammar.specs.Script.{script}
-
--- the definition that a step adds; none of these steps adds one
-abbrev pub definition_of : Step → List Clause
-definition_of (Unfold id at) = []
-definition_of (DeleteFalse id show) = []
-definition_of (Merge id first second) = []
-definition_of (Add id row show) = []
-definition_of (Drop id row show) = []
-definition_of (Project id var) = []
-definition_of (Equate id var to show) = []
-
--- the definitions that a script adds, in order
-abbrev pub definitions_of : List Step → List Clause
-definitions_of [] = []
-definitions_of (step ∷ steps) = definition_of step ++ definitions_of steps
 
 -- The bytes that are written read as a program whose clauses load, and in which
 -- a ground atom of a predicate of the input program has a proof exactly if it has one in the input program,

@@ -4,7 +4,7 @@ use text_fault::TextFault;
 use thiserror::Error;
 
 /// Why a script was not applied to a program: the first of these, in this order, that holds.
-#[derive(Clone, Copy, Debug, PartialEq, Eq, Error)]
+#[derive(Debug, Drop, Error)]
 pub enum ReplayFault {
     /// The text of the program is not in its form: its first fault.
     #[error("the text of the program is not in its form: {0}")]
