@@ -16,13 +16,13 @@ use Rattle.map_model.specs.declared.step.Step.{Step}
 use Rattle.map_model.specs.State.{State}
 use Rattle.replay_model.specs.declared.replay_fault.ReplayFault.{ReplayFault}
 use Rattle.replay_model.specs.declared.replay_fault.ReplayFault.TheVariants as fault
-use Rattle.replay_model.specs.Replay.{fault_of, started, loaded, opened, unless_refused, carried_out, scripted, then_scripted, replayed, output}
+use Rattle.replay_model.specs.Replay.{fault_of, started, loaded, opened, unless_refused, carried_out, scripted, then_scripted, output}
 use Rattle.command_model.specs.declared.status.Status.{Status}
 use Rattle.command_model.specs.declared.status.Status.TheVariants as status
 use Rattle.command_model.specs.Command.{Command, Replay, Fill, command_of}
 use Rattle.status_lines.specs.Lines.{max_program, max_script, long_program_line, long_script_line, fault_line, refused_line}
 use Rattle.command_model.specs.Lines.{usage_line, fault_status}
-use Rattle.command_model.specs.Plan.{after_script, after_program, script_on_program, filled, plan_of_command, plan_of, plan}
+use Rattle.command_model.specs.Plan.{after_script, after_program, script_on_program, filled, plan_of, plan}
 use Rattle.command_model.specs.Causes.{Gives, LeadsTo, Awaits, is_said}
 use Rattle.command_laws.specs.Ends.{IsAccepted, Opens, IsRefused, IsBadProgram, IsBadScript}
 

@@ -1,7 +1,7 @@
 -- Where the files are told, what a plan leads to is the right answer.
-use Rattle.std.proofs.Common.{◌≡◌, ℕ, ◌<◌, ◌≤◌, inl, inr, List, length, refl, ap, ◌∙◌, sym}
+use Rattle.std.proofs.Common.{◌≡◌, ℕ, ◌<◌, ◌≤◌, inl, inr, List, length, ap, ◌∙◌, sym}
 use Rattle.std.proofs.lemmas.Bool.{lt-ltb, le-ltb}
-use Rattle.std.specs.Prelude.{Option, Some, None, nat_lt, if◌then◌else◌}
+use Rattle.std.specs.Prelude.{Option, Some, if◌then◌else◌}
 use Rattle.map_base.specs.Outside.{Files, file_of}
 use Rattle.command_model.specs.declared.status.Status.{Status}
 use Rattle.command_model.specs.Plan.{Plan, Ends, Asks}

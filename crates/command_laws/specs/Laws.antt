@@ -5,7 +5,7 @@ use Rattle.map_model.specs.declared.refusal.Refusal.{Refusal}
 use Rattle.map_model.specs.State.{State}
 use Rattle.command_model.specs.declared.status.Status.{Status}
 use Rattle.command_model.specs.declared.status.Status.TheVariants as status
-use Rattle.command_model.specs.Command.{Command, command_of}
+use Rattle.command_model.specs.Command.{command_of}
 use Rattle.status_lines.specs.Lines.{refused_line}
 use Rattle.command_model.specs.Lines.{usage_line}
 use Rattle.command_model.specs.Plan.{Plan, script_on_program, plan}

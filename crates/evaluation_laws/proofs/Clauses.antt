@@ -19,7 +19,6 @@ use Rattle.linear_model.specs.Normal.{IsNormal, is_within}
 use Rattle.linear_laws.proofs.Lists.{filter_in, filter_out}
 use Rattle.unify_laws.proofs.Solved.{among_cases}
 use Rattle.clause_model.specs.Variables.{rows_variables, is_num, nums_from, loose_nums, variables_as_printed}
-use Rattle.clause_model.specs.Canonical.{IsCanonical}
 use Rattle.clause_model.specs.Solved.{RowsAreNum}
 use Rattle.clause_model.specs.Source.{source_of}
 use Rattle.clause_store.specs.declared.source.SourceClause.{SourceClause}
@@ -163,11 +162,11 @@ unlisted k (Num ∷ ss) n a = among_cases a
     (λ b. let r = unlisted (suc k) ss n b in (suc r.0, omega (arith, r.1), r.2))
 unlisted k (Any ∷ ss) n a = let r = unlisted (suc k) ss n a in (suc r.0, omega (arith, r.1), r.2)
 
-num_listed : (sorts : List Sort) (n : ℕ) → sort_in sorts n ≡ Num → Among n (nums_from 1 sorts)
+pub num_listed : (sorts : List Sort) (n : ℕ) → sort_in sorts n ≡ Num → Among n (nums_from 1 sorts)
 num_listed sorts zero e = absurd (cc)
 num_listed sorts (suc n) e = subst (λ m. Among m (nums_from 1 sorts)) (let q : 1 + n ≡ suc n = omega arith in q) (listed 1 sorts n e)
 
-listed_num : (sorts : List Sort) (n : ℕ) → Among n (nums_from 1 sorts) → sort_in sorts n ≡ Num
+pub listed_num : (sorts : List Sort) (n : ℕ) → Among n (nums_from 1 sorts) → sort_in sorts n ≡ Num
 listed_num sorts zero a = let r = unlisted 1 sorts 0 a in absurd (omega (arith, r.1))
 listed_num sorts (suc n) a =
     let r = unlisted 1 sorts (suc n) a in
@@ -212,7 +211,7 @@ module _ (c : Clause) (rows_are : RowsAreNum c) where
 
 -- ---- clauses
 
-module _ (c : Clause) (canonical : IsCanonical c) (rows_are : RowsAreNum c) (ordinary : All IsOrdinary (c.head ∷ c.body)) where
+module _ (c : Clause) (each_row : (r : Row) → Among r c.rows → IsNormal r × (is_within r ≡ true)) (rows_are : RowsAreNum c) (ordinary : All IsOrdinary (c.head ∷ c.body)) where
   abbrev names : List ℕ
   names = variables_as_printed c
 
@@ -249,11 +248,6 @@ module _ (c : Clause) (canonical : IsCanonical c) (rows_are : RowsAreNum c) (ord
   all_met : CanMeet names empty (variables c.head ++ (numbers ++ variables_in c.body))
   unfolding empty
   all_met = record { first = ([], append-nil _ ∙ ap (with_variables []) in_order); within = λ n a. elim a [ ] }
-
-  each_row : (r : Row) → Among r c.rows → IsNormal r × (is_within r ≡ true)
-  each_row r a =
-      let is = row_is_normal c canonical r a in
-      (is, subst (λ x. is_within x ≡ true) is.stays (each_within c.rows canonical.range r a))
 
   evaluated_is : (after : ℕ) → (m : Meaning) × (evaluated (draft_of c after) (nothing (length names)) ≡ Ok (source, m))
   unfolding evaluated draft_of empty
@@ -292,5 +286,11 @@ module _ (c : Clause) (canonical : IsCanonical c) (rows_are : RowsAreNum c) (ord
   unfolding source_of
   source_is = refl
 
+-- what stands for a clause whose rows are in normal form and in range
+pub rows_meant : (c : Clause) (after : ℕ) → ((r : Row) → Among r c.rows → IsNormal r × (is_within r ≡ true)) → RowsAreNum c → All IsOrdinary (c.head ∷ c.body)
+    → (s : SourceClause) × (meaning (draft_of c after) ≡ Ok s) × (meaning_of s ≡ source_of c)
+rows_meant c after rows nums ordinary = (source c rows nums ordinary, clause_is c rows nums ordinary after, source_is c rows nums ordinary)
+
 pub clause_meant : StandingClausesHaveTheirMeaning
-clause_meant c after canonical nums ordinary = (source c canonical nums ordinary, clause_is c canonical nums ordinary after, source_is c canonical nums ordinary)
+clause_meant c after canonical nums ordinary =
+    rows_meant c after (λ r a. let is = row_is_normal c canonical r a in (is, subst (λ x. is_within x ≡ true) is.stays (each_within c.rows canonical.range r a))) nums ordinary

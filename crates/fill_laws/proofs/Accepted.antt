@@ -1,25 +1,39 @@
 -- An accepted step is the rewriting of its rule.
-use Rattle.std.proofs.Common.{◌≡◌, ℕ, ◌-◌, [], ◌∷◌, length, Bool, true, false, refl, ◌∙◌, ap}
+use Rattle.std.proofs.Common.{◌≡◌, ℕ, ◌-◌, List, [], ◌∷◌, map, length, Bool, true, false, refl, ◌∙◌, ap}
 use Rattle.std.specs.Prelude.{remove, Option, Some, None, Result, Ok, Err, nat_le, if◌then◌else◌}
 use Rattle.clp_model.specs.declared.limit.Limit.TheVariants.{Steps}
+use Rattle.clp_model.specs.declared.predicate.Pred.{Pred}
 use Rattle.clp_model.specs.Clauses.{Clause, Row}
+use Rattle.clause_model.specs.Canonical as clauses
+use Rattle.clause_model.specs.Load.{load_one}
+use Rattle.clause_store.specs.declared.source.SourceClause.{SourceClause}
+use Rattle.clause_store.specs.Source.{meaning_of}
+use Rattle.unify_model.specs.Substituting.{Binding}
+use Rattle.fold_model.specs.Images.{matched_atoms}
+use Rattle.fold_model.specs.Folded.{questions, folded_clause}
 use Rattle.replace_model.specs.Rows.{with_row, without_row, projected, equated, equation_of}
 use Rattle.farkas_check.specs.declared.cert.Cert.{Cert}
 use Rattle.map_model.specs.declared.shown.Shown.{Shown}
 use Rattle.map_model.specs.declared.shown.Shown.TheVariants.{Given}
+use Rattle.map_model.specs.declared.shown.Shows.{Shows}
+use Rattle.map_model.specs.declared.shown.Shows.TheVariants.{Each}
 use Rattle.map_model.specs.declared.step.Step.{Step}
-use Rattle.map_model.specs.declared.step.Step.TheVariants.{Unfold, DeleteFalse, Merge, Add, Drop, Project, Equate}
+use Rattle.map_model.specs.declared.step.Step.TheVariants.{Define, Unfold, Fold, DeleteFalse, Merge, Add, Drop, Project, Equate}
 use Rattle.map_model.specs.declared.refusal.Refusal.{Refusal}
 use Rattle.map_model.specs.declared.refusal.Refusal.TheVariants.{NoAtom, TooLarge}
-use Rattle.map_model.specs.State.{Entry, State, live_at}
+use Rattle.map_model.specs.State.{Entry, State, live_at, definition_of}
 use Rattle.map_model.specs.Rewriting.{Rewriting, rewritten, unless_broken}
-use Rattle.map_model.specs.Merging.{in_range, first_broken, merged, merge_of}
+use Rattle.map_model.specs.Merging.{first_broken, merged, merge_of}
+use Rattle.fold_model.specs.Positions.{in_range}
+use Rattle.map_model.specs.Defining.{definition_broken, definition, define_loaded}
 use Rattle.map_model.specs.Unfolding.{resolvents, unfold_of}
+use Rattle.map_model.specs.Folding.{unmarked, atoms_broken, images, images_broken, folded_by, fold_matched, fold_defined, fold_in}
+use Rattle.map_model.specs.ShowingAll.{certificates}
 use Rattle.map_model.specs.Showing.{shown_by, shown_false_by}
 use Rattle.map_model.specs.Deleting.{false_deleted, delete_false_of}
 use Rattle.map_model.specs.Replacing.{variables_broken, in_place, in_place_by, for_entry, add_to, row_of, no_row, drop_from, project_broken, project_from, equate_broken, equate_in}
 use Rattle.map_model.specs.After.{by_rule, after}
-use Rattle.fill_laws.specs.Accepted.{instead, in_its_place, IsRewriting, unfolds, deletes_false, merges, adds, drops, projects, equates}
+use Rattle.fill_laws.specs.Accepted.{instead, in_its_place, IsRewriting, defines, unfolds, folds, deletes_false, merges, adds, drops, projects, equates}
 use Rattle.fill_laws.specs.Laws.{AcceptedStepIsItsRewriting, RewritingOfItsRule}
 
 -- a rewriting of the step that makes the state t
@@ -43,6 +57,16 @@ certified s t id e d step (Ok c) h = (c, refl, h)
 certified s t id e d step (Err x) h = absurd (cc)
 
 module _ (s t : State) where
+  define_is : (source : SourceClause) → by_rule s (Define source) ≡ Ok t → Makes s t (Define source)
+  define_is source h = by (load_one (meaning_of source)) refl h
+    where
+      by : (o : Result (Option Clause) clauses.Refusal) → load_one (meaning_of source) ≡ o → define_loaded s o ≡ Ok t → Makes s t (Define source)
+      by (Err x) q k = absurd (cc)
+      by (Ok None) q k = absurd (cc)
+      by (Ok (Some c)) q k =
+          let u = unbroken (definition_broken s c) (rewritten s (definition c)) t k in
+          (definition c, defines q u.0, u.1)
+
   unfold_is : (id at : ℕ) → by_rule s (Unfold id at) ≡ Ok t → Makes s t (Unfold id at)
   unfold_is id at h = by (live_at s id) refl h
     where
@@ -54,6 +78,39 @@ module _ (s t : State) where
       by : (o : Option Entry) → live_at s id ≡ o → unfold_of s id at o ≡ Ok t → Makes s t (Unfold id at)
       by None q k = absurd (cc)
       by (Some e) q k = within e q (in_range (length e.clause.body) at) refl k
+
+  -- a definition that is there, and what follows for it
+  module _ (id : ℕ) (at : List ℕ) (by : Pred) (with keep : List ℕ) (show : Shows) where
+    abbrev FoldMakes : Type 0
+    FoldMakes = Makes s t (Fold id at by with keep show)
+
+    fold_by : (e : Entry) (n : Clause) (bs : List Binding)
+        → live_at s id ≡ Some e → unmarked id e ≡ None → definition_of s by ≡ Some n → atoms_broken e.clause at ≡ None → matched_atoms n e.clause at ≡ Some bs → images_broken n e.clause at with keep bs ≡ None
+        → (o : Result (List Cert) Refusal) → certificates (questions n e.clause (images n e.clause with bs) keep) show ≡ o
+        → folded_by s id e (folded_clause n e.clause (images n e.clause with bs) at keep) (Fold id at by with keep) o ≡ Ok t → FoldMakes
+    fold_by e n bs q u d a m i (Err x) c k = absurd (cc)
+    fold_by e n bs q u d a m i (Ok cs) c k =
+        (instead id (in_its_place id e (folded_clause n e.clause (images n e.clause with bs) at keep)) (Fold id at by with keep (Each (map Given cs))), folds q u d a m i c, k)
+
+    fold_is_matched : (e : Entry) (n : Clause) → live_at s id ≡ Some e → unmarked id e ≡ None → definition_of s by ≡ Some n → atoms_broken e.clause at ≡ None
+        → (o : Option (List Binding)) → matched_atoms n e.clause at ≡ o → fold_matched s id at by with keep show e n o ≡ Ok t → FoldMakes
+    fold_is_matched e n q u d a None m k = absurd (cc)
+    fold_is_matched e n q u d a (Some bs) m k =
+        let asked = certificates (questions n e.clause (images n e.clause with bs) keep) show in
+        let v = unbroken (images_broken n e.clause at with keep bs) (folded_by s id e (folded_clause n e.clause (images n e.clause with bs) at keep) (Fold id at by with keep) asked) t k in
+        fold_by e n bs q u d a m v.0 asked refl v.1
+
+    fold_is_defined : (e : Entry) → live_at s id ≡ Some e → unmarked id e ≡ None → (o : Option Clause) → definition_of s by ≡ o → fold_defined s id at by with keep show e o ≡ Ok t → FoldMakes
+    fold_is_defined e q u None d k = absurd (cc)
+    fold_is_defined e q u (Some n) d k =
+        let v = unbroken (atoms_broken e.clause at) (fold_matched s id at by with keep show e n (matched_atoms n e.clause at)) t k in
+        fold_is_matched e n q u d v.0 (matched_atoms n e.clause at) refl v.1
+
+    fold_is : by_rule s (Fold id at by with keep show) ≡ Ok t → FoldMakes
+    fold_is h =
+        let w = there id (fold_in s id at by with keep show) (live_at s id) t h in
+        let u = unbroken (unmarked id w.0) (fold_defined s id at by with keep show w.0 (definition_of s by)) t w.2 in
+        fold_is_defined w.0 w.1 u.0 (definition_of s by) refl u.1
 
   delete_false_is : (id : ℕ) (show : Shown) → by_rule s (DeleteFalse id show) ≡ Ok t → Makes s t (DeleteFalse id show)
   delete_false_is id show h = by (live_at s id) refl h
@@ -111,7 +168,9 @@ module _ (s t : State) where
       (instead id (in_its_place id w.0 d) (Equate id v u (Given k.0)), equates w.1 n.0 k.1, k.2)
 
   rule_is : (step : Step) → by_rule s step ≡ Ok t → Makes s t step
+  rule_is (Define source) h = define_is source h
   rule_is (Unfold id at) h = unfold_is id at h
+  rule_is (Fold id at by with keep show) h = fold_is id at by with keep show h
   rule_is (DeleteFalse id show) h = delete_false_is id show h
   rule_is (Merge id i j) h = merge_is id i j h
   rule_is (Add id row show) h = add_is id row show h
@@ -135,8 +194,20 @@ goes_on : (o : Option Refusal) (next : Result State Refusal) → o ≡ None → 
 goes_on o next h = ap (λ x. unless_broken x next) h
 
 pub rule_of : RewritingOfItsRule
+rule_of s _ _ (defines {source} {c} q r) = ap (define_loaded s) q ∙ goes_on (definition_broken s c) (rewritten s (definition c)) r
 rule_of s _ _ (unfolds {id} {at} {e} q r) =
     ap (unfold_of s id at) q ∙ ap (λ b. if b then rewritten s (instead id (resolvents s id e.clause at) (Unfold id at)) else Err (NoAtom at)) r
+rule_of s _ _ (folds {id} {at} {by} {with} {keep} {show} {e} {n} {bs} {cs} q u d a m i k) =
+    let step = Fold id at by with keep in
+    let c = folded_clause n e.clause (images n e.clause with bs) at keep in
+    let asked = certificates (questions n e.clause (images n e.clause with bs) keep) show in
+    ap (for_entry id (fold_in s id at by with keep show)) q
+    ∙ (goes_on (unmarked id e) (fold_defined s id at by with keep show e (definition_of s by)) u
+    ∙ (ap (fold_defined s id at by with keep show e) d
+    ∙ (goes_on (atoms_broken e.clause at) (fold_matched s id at by with keep show e n (matched_atoms n e.clause at)) a
+    ∙ (ap (fold_matched s id at by with keep show e n) m
+    ∙ (goes_on (images_broken n e.clause at with keep bs) (folded_by s id e c step asked) i
+    ∙ ap (folded_by s id e c step) k)))))
 rule_of s _ _ (deletes_false {id} {show} {e} {c} q r) = ap (delete_false_of s id show) q ∙ ap (false_deleted s id) r
 rule_of s _ _ (merges {id} {i} {j} {e} q r) =
     ap (merge_of s id i j) q ∙ goes_on (first_broken e.clause.body i j) (rewritten s (instead id (merged e id j ∷ []) (Merge id i j))) r

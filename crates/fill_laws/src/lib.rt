@@ -3,12 +3,18 @@
 //! There is no code here: each law is the contract of an empty function.
 #![tactic(auto)]
 
-ghost use Rattle.fill_laws.specs.Laws.{ShownRowIsAccepted, ShownFalsehoodIsAccepted, ShownRowIsEntailed, ShownFalsehoodHasNoSolution, AcceptedStepIsItsRewriting, RewritingOfItsRule, FilledStepRunsToTheSame, FilledRunRunsToTheSame, FilledScriptRunsToTheSame};
+ghost use Rattle.fill_laws.specs.Laws.{ShownRowIsAccepted, ShownFalsehoodIsAccepted, ShownRowIsEntailed, ShownFalsehoodHasNoSolution, ShownRowsAreAccepted, ShownRowsAreEntailed, AcceptedStepIsItsRewriting, RewritingOfItsRule, FilledStepRunsToTheSame, FilledRunRunsToTheSame, FilledScriptRunsToTheSame};
 
 /// The certificate by which a row is shown, given or found, has no fault; and the row is entailed.
 pub fn shown_rows_are_entailed()
     ensures accepted { ShownRowIsAccepted }
     ensures entailed { ShownRowIsEntailed }
+{}
+
+/// So have those by which several rows are shown, one after another: there is one for each, and each row is entailed.
+pub fn several_shown_rows_are_entailed()
+    ensures accepted { ShownRowsAreAccepted }
+    ensures entailed { ShownRowsAreEntailed }
 {}
 
 /// So has that by which rows are shown false; and they have no common solution.

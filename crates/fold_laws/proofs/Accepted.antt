@@ -1,5 +1,5 @@
 -- A fold whose conditions hold is what the rank asks of one.
-use Rattle.std.proofs.Common.{◌≡◌, ℕ, ◌<◌, ◌≤◌, List, [], ◌∷◌, ◌++◌, map, length, arith, refl, sym, ◌∙◌, ap, subst, Bool, true, false, inl, inr, Some, None}
+use Rattle.std.proofs.Common.{◌≡◌, ℕ, ◌<◌, ◌≤◌, List, [], ◌∷◌, ◌++◌, map, length, arith, refl, ap, subst, Bool, true, false, inl, inr, Some, None}
 use Rattle.std.specs.Prelude.{not, if◌then◌else◌}
 use Rattle.std.proofs.lemmas.List.{length-map}
 use Rattle.clp_model.specs.declared.tree.Tree.{Tree, Var}
@@ -17,12 +17,11 @@ use Rattle.fold_model.specs.Internal.{internal_variables, number_in, taken_varia
 use Rattle.fold_model.specs.Folded.{folded_clause}
 use Rattle.rule_laws.specs.Steps.{IsHeld}
 use Rattle.rule_laws.specs.Folding.{IsInternal, KeepsInternal, IsFolded}
-use Rattle.rule_laws.specs.Folding as rank
 use Rattle.fold_laws.specs.Laws.{IsAccepted}
 use Rattle.fold_laws.proofs.Places.{inside, taken_at, removed_replaced, chosen_old}
 use Rattle.fold_laws.proofs.Bound.{in_is, is_then_in, not_in, numbers_have, respects, atoms_are}
 use Rattle.fold_laws.proofs.Apart.{StaysApart, each_apart, each_own, variable_image}
-use Rattle.fold_laws.proofs.Shown.{same_number, entailed, dropped}
+use Rattle.fold_laws.proofs.Shown.{entailed, dropped}
 
 module _ (n c : Clause) (at with keep : List ℕ) (bs : List Binding) (hn : IsHeld n) (some : 0 < length n.body) (h : IsAccepted n c at with keep bs) where
   abbrev s : ℕ → Tree ℕ
@@ -76,11 +75,8 @@ module _ (n c : Clause) (at with keep : List ℕ) (bs : List Binding) (hn : IsHe
   image : (x : ℕ) → IsInternal n x → s x ≡ Var (number_in (s x))
   image x i = (variable_image c.sorts (sort_in n.sorts x) (s x) (apart x i).variable).0
 
-  same : (x : ℕ) → rank.number_in (s x) ≡ number_in (s x)
-  same x = same_number (s x)
-
-  free : (x : ℕ) → IsInternal n x → ¬ Among (rank.number_in (s x)) taken_already
-  free x i a = not_in taken_already (number_in (s x)) (apart x i).free (subst (λ k. Among k taken_already) (same x) a)
+  free : (x : ℕ) → IsInternal n x → ¬ Among (number_in (s x)) taken_already
+  free x i a = not_in taken_already (number_in (s x)) (apart x i).free a
 
   abbrev of_head_images : List ℕ
   of_head_images = variables_in (map s (variables n.head))
@@ -91,19 +87,19 @@ module _ (n c : Clause) (at with keep : List ℕ) (bs : List Binding) (hn : IsHe
 
   internal : KeepsInternal c n s (chosen keep c.rows) rest
   internal = record {
-    image = λ x i. image x i ∙ ap Var (sym (same x));
-    sort = λ x i. ap (sort_in c.sorts) (same x) ∙ (variable_image c.sorts (sort_in n.sorts x) (s x) (apart x i).variable).1;
-    own = λ x y i j q. each_own n c s taken_already (internal_variables n) h.apart x y (is_one x i) (is_one y j) (sym (same x) ∙ (q ∙ same y));
-    not_in_head = λ x i k. free x i (among_front (rank.number_in (s x)) (variables c.head) (variables_in rest ++ (rows_variables (chosen keep c.rows) ++ of_head_images)) (to_among (variables c.head) (rank.number_in (s x)) k));
-    not_in_rest = λ x i k. free x i (among_back (rank.number_in (s x)) (variables c.head) (variables_in rest ++ (rows_variables (chosen keep c.rows) ++ of_head_images))
-        (among_front (rank.number_in (s x)) (variables_in rest) (rows_variables (chosen keep c.rows) ++ of_head_images) (to_among (variables_in rest) (rank.number_in (s x)) k)));
-    not_in_rows = λ x i k. free x i (among_back (rank.number_in (s x)) (variables c.head) (variables_in rest ++ (rows_variables (chosen keep c.rows) ++ of_head_images))
-        (among_back (rank.number_in (s x)) (variables_in rest) (rows_variables (chosen keep c.rows) ++ of_head_images)
-        (among_front (rank.number_in (s x)) (rows_variables (chosen keep c.rows)) of_head_images (to_among (rows_variables (chosen keep c.rows)) (rank.number_in (s x)) k))));
-    not_in_images = λ x y i a k. free x i (among_back (rank.number_in (s x)) (variables c.head) (variables_in rest ++ (rows_variables (chosen keep c.rows) ++ of_head_images))
-        (among_back (rank.number_in (s x)) (variables_in rest) (rows_variables (chosen keep c.rows) ++ of_head_images)
-        (among_back (rank.number_in (s x)) (rows_variables (chosen keep c.rows)) of_head_images
-        (in_images (variables n.head) y (rank.number_in (s x)) (to_among (variables n.head) y a) (to_among (variables (s y)) (rank.number_in (s x)) k)))));
+    image = λ x i. image x i;
+    sort = λ x i. (variable_image c.sorts (sort_in n.sorts x) (s x) (apart x i).variable).1;
+    own = λ x y i j q. each_own n c s taken_already (internal_variables n) h.apart x y (is_one x i) (is_one y j) q;
+    not_in_head = λ x i k. free x i (among_front (number_in (s x)) (variables c.head) (variables_in rest ++ (rows_variables (chosen keep c.rows) ++ of_head_images)) (to_among (variables c.head) (number_in (s x)) k));
+    not_in_rest = λ x i k. free x i (among_back (number_in (s x)) (variables c.head) (variables_in rest ++ (rows_variables (chosen keep c.rows) ++ of_head_images))
+        (among_front (number_in (s x)) (variables_in rest) (rows_variables (chosen keep c.rows) ++ of_head_images) (to_among (variables_in rest) (number_in (s x)) k)));
+    not_in_rows = λ x i k. free x i (among_back (number_in (s x)) (variables c.head) (variables_in rest ++ (rows_variables (chosen keep c.rows) ++ of_head_images))
+        (among_back (number_in (s x)) (variables_in rest) (rows_variables (chosen keep c.rows) ++ of_head_images)
+        (among_front (number_in (s x)) (rows_variables (chosen keep c.rows)) of_head_images (to_among (rows_variables (chosen keep c.rows)) (number_in (s x)) k))));
+    not_in_images = λ x y i a k. free x i (among_back (number_in (s x)) (variables c.head) (variables_in rest ++ (rows_variables (chosen keep c.rows) ++ of_head_images))
+        (among_back (number_in (s x)) (variables_in rest) (rows_variables (chosen keep c.rows) ++ of_head_images)
+        (among_back (number_in (s x)) (rows_variables (chosen keep c.rows)) of_head_images
+        (in_images (variables n.head) y (number_in (s x)) (to_among (variables n.head) y a) (to_among (variables (s y)) (number_in (s x)) k)))));
   }
 
   pub is_folded : IsFolded c n (folded_clause n c s at keep) s

@@ -1,5 +1,5 @@
 -- What the variables of a definition become.
-use Rattle.std.proofs.Common.{◌≡◌, ℕ, zero, suc, ◌+◌, ◌<◌, ◌≤◌, List, [], ◌∷◌, ◌++◌, map, length, arith, refl, sym, ◌∙◌, ap, subst, Bool, true, false, inl, inr, Some, None}
+use Rattle.std.proofs.Common.{◌≡◌, ℕ, zero, suc, ◌+◌, ◌-◌, ◌<◌, ◌≤◌, List, [], ◌∷◌, ◌++◌, map, length, arith, refl, sym, ◌∙◌, ap, subst, Bool, true, false, ◌⊎◌, inl, inr, Some, None}
 use Rattle.std.specs.Prelude.{nat_eq, not, if◌then◌else◌, slice_index_or}
 use Rattle.std.proofs.lemmas.Bool.{eqb-true}
 use Rattle.clp_model.specs.declared.sort.Sort.{Sort}
@@ -9,6 +9,7 @@ use Rattle.clp_model.specs.declared.tree.Tree.{Tree, Var, App', Row_of-Tree, end
 use Rattle.clp_model.specs.Trees.{mapped, mapped_row, mapped_all, variables, variables_in_row, variables_in}
 use Rattle.clp_model.specs.Clauses.{Clause, sort_in}
 use Rattle.clp_model.proofs.Membership.{Among, first, next, among_front, among_back, among_either, among_mapped}
+use Rattle.clp_model.proofs.Trees.{variables_var}
 use Rattle.clp_model.proofs.RenamedTrees.{all_variables_mapped, all_mapped_twice, all_mapped_to_themselves}
 use Rattle.linear_laws.proofs.Lists.{filter_in, filter_out, mapped_out}
 use Rattle.unify_model.specs.Substituting.{substituted, substituted_row, substituted_all, same_variable, Binding}
@@ -19,7 +20,7 @@ use Rattle.unify_laws.proofs.Matchings.{matched_is}
 use Rattle.unify_laws.proofs.Solved.{among_cases}
 use Rattle.clause_model.specs.Solved.{typed_variable, number_of}
 use Rattle.clause_model.specs.Variables.{is_num}
-use Rattle.clause_laws.proofs.Distinct.{found_among, among_found}
+use Rattle.clause_laws.proofs.Distinct.{found_among, among_found, only_one}
 use Rattle.clause_laws.proofs.Upto.{number_equality}
 use Rattle.rule_laws.specs.Folding.{RespectsSorts}
 use Rattle.fold_model.specs.Positions.{in_range, is_in, at_positions}
@@ -221,3 +222,33 @@ module _ (n c : Clause) (at with : List ℕ) (bs : List Binding) (m : matched_at
       sym (all_mapped_twice (typed_variable c.sorts) number_of (λ x. x) atoms (λ x k. refl) ∙ all_mapped_to_themselves (λ x. x) atoms (λ x k. refl))
       ∙ (ap (λ (ts : List (Tree Variable)). mapped_all number_of ts) (sym is_matching.is)
       ∙ each_is n.body (λ x k. k))
+
+  -- ---- where the variables of an image come from
+  tree_at : (ps : List ℕ) (y : ℕ) → Among y (variables_in (at_positions c.head c.body ps)) → Among y (variables_in (c.head ∷ c.body))
+  tree_at [] y a = elim a [ ]
+  tree_at (p ∷ ps) y a = elim (among_either y (variables (slice_index_or c.body (p - 1) c.head)) (variables_in (at_positions c.head c.body ps)) a) [
+    | inl k ↦ at_place c.body (p - 1) k
+    | inr k ↦ tree_at ps y k
+  ]
+    where
+      at_place : (ts : List (Tree ℕ)) (i : ℕ) → Among y (variables (slice_index_or ts i c.head)) → Among y (variables_in (c.head ∷ ts))
+      at_place [] i k = among_front y (variables c.head) [] k
+      at_place (t ∷ ts) zero k = among_back y (variables c.head) (variables_in (t ∷ ts)) (among_front y (variables t) (variables_in ts) k)
+      at_place (t ∷ ts) (suc i) k = elim (among_either y (variables c.head) (variables_in ts) (at_place ts i k)) [
+        | inl m ↦ among_front y (variables c.head) (variables_in (t ∷ ts)) m
+        | inr m ↦ among_back y (variables c.head) (variables_in (t ∷ ts)) (among_back y (variables t) (variables_in ts) m)
+      ]
+
+  -- it is one of the clause's trees, or a Num variable that is named
+  pub image_variables : (x : ℕ) → 1 ≤ x → x ≤ length n.sorts → (y : ℕ) → Among y (variables (s x)) → Among y (variables_in (c.head ∷ c.body)) ⊎ ((1 ≤ y) × (y ≤ length c.sorts))
+  unfolding mapped
+  image_variables x l u y a = by (is_in (variables_in n.body) x) refl
+    where
+      by : (b : Bool) → is_in (variables_in n.body) x ≡ b → Among y (variables_in (c.head ∷ c.body)) ⊎ ((1 ≤ y) × (y ≤ length c.sorts))
+      by true i = inl (tree_at at y (subst (λ (ts : List (Tree ℕ)). Among y (variables_in ts)) (sym atoms_are) (all_goes_to s x y n.body (in_is (variables_in n.body) x i) a)))
+      by false i =
+          let o : Among x (outer_variables n) = filter_in (λ y. not (is_in (variables_in n.body) y)) (all_variables n) x (numbers_have 1 n.sorts x l (omega (arith, u))) (not_false (is_in (variables_in n.body) x) i) in
+          let r = named n c bs 1 (outer_variables n) with named_are.1 named_are.0 x o in
+          let is : s x ≡ Var r.0 = ap (mapped number_of) r.1 in
+          let y_is : y ≡ r.0 = only_one y r.0 (subst (λ (vs : List ℕ). Among y vs) (variables_var r.0) (subst (λ (t : Tree ℕ). Among y (variables t)) is a)) in
+          inr (num_inside c.sorts y (ap (sort_in c.sorts) y_is ∙ r.2))

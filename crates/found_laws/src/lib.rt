@@ -3,19 +3,21 @@
 //! an empty function.
 #![tactic(auto)]
 
-ghost use Rattle.found_laws.specs.Laws.{FoundRowCanBeWritten, FoundFalsehoodCanBeWritten, ShownRowCanBeWritten, ShownFalsehoodCanBeWritten, GivenRowStays, GivenFalsehoodStays};
+ghost use Rattle.found_laws.specs.Laws.{FoundRowCanBeWritten, FoundFalsehoodCanBeWritten, ShownRowCanBeWritten, ShownFalsehoodCanBeWritten, ShownRowsCanBeWritten, GivenRowStays, GivenFalsehoodStays, GivenRowsStay};
 
 /// Each multiplier of a certificate that the finder finds is within the range of a script; so the certificate by which
-/// something is shown can be written where a given one could.
+/// something is shown can be written where a given one could, and so can each of those by which several rows are shown.
 pub fn shown_certificates_can_be_written()
     ensures found { FoundRowCanBeWritten }
     ensures found_false { FoundFalsehoodCanBeWritten }
     ensures shown { ShownRowCanBeWritten }
     ensures shown_false { ShownFalsehoodCanBeWritten }
+    ensures shown_rows { ShownRowsCanBeWritten }
 {}
 
-/// What is shown by a given certificate is shown by just this one.
+/// What is shown by a given certificate is shown by just this one, and rows that are shown by a given one each, by these.
 pub fn given_certificates_stay()
     ensures shown { GivenRowStays }
     ensures shown_false { GivenFalsehoodStays }
+    ensures shown_rows { GivenRowsStay }
 {}

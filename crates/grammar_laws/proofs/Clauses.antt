@@ -15,7 +15,7 @@ use Rattle.clause_store.specs.declared.source.SourceClause.{SourceClause}
 use Rattle.clause_store.specs.Stored.{IsNum}
 use Rattle.clause_loader.specs.WellFormed as loader
 use Rattle.clause_loader.specs.WellFormed.{IsNumber, IsNarrowAtom}
-use Rattle.state_laws.specs.WellFormed as state
+use Rattle.map_model.specs.WellFormed as state
 use Rattle.standing_model.specs.Names.{is_short, is_ordinary}
 use Rattle.name_laws.specs.Names.{HasNames, IsAtomOver}
 use Rattle.token_model.specs.declared.fault.Fault.{Fault}

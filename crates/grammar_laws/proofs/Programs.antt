@@ -37,10 +37,10 @@ unless_value P (Some e) r h = tt
 -- ---- clauses
 
 -- a clause that can be loaded, and no text after it that is longer
-abbrev IsReadWithin : Remaining → SourceClause × Remaining → Type 0
+abbrev pub IsReadWithin : Remaining → SourceClause × Remaining → Type 0
 IsReadWithin r p = IsReadClause p.0 × (length p.1.text ≤ length r.text)
 
-clause_read : (r : Remaining) → length r.text < 2 ^ 32 → IfValue (IsReadWithin r) (clause r)
+pub clause_read : (r : Remaining) → length r.text < 2 ^ 32 → IfValue (IsReadWithin r) (clause r)
 unfolding clause_with
 clause_read r short = by (draft end (start r)) refl
   where

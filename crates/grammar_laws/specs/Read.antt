@@ -7,7 +7,7 @@ use Rattle.clause_store.specs.declared.source.SourceClause.{SourceClause}
 use Rattle.clause_store.specs.Source.{meaning_of}
 use Rattle.clause_loader.specs.WellFormed as loader
 use Rattle.clause_loader.specs.WellFormed.{IsNarrow}
-use Rattle.state_laws.specs.WellFormed as state
+use Rattle.map_model.specs.WellFormed as state
 use Rattle.standing_model.specs.Names.{is_short, is_ordinary}
 use Rattle.name_laws.specs.Names.{AreOver, EquationsHaveNames}
 

@@ -41,7 +41,7 @@ new_is_form c d e = by (all_within c.rows) (limit_past (canonical_form c)) e
     by true None h = ok_is h
 
 module _ (p : List ℕ → Bool) (q : Pred → Bool) where
-  atoms_mapped : (f : ℕ → ℕ) (ts : List (Tree ℕ)) → All (IsAtomOver p q) ts → All (IsAtomOver p q) (mapped_all f ts)
+  pub atoms_mapped : (f : ℕ → ℕ) (ts : List (Tree ℕ)) → All (IsAtomOver p q) ts → All (IsAtomOver p q) (mapped_all f ts)
   atoms_mapped f [] h = All-nil (IsAtomOver p q)
   atoms_mapped f (t ∷ ts) h =
       All-cons (IsAtomOver p q) (mapped f t) (mapped_all f ts) (atom_mapped p q f t (All-head (IsAtomOver p q) t ts h)) (atoms_mapped f ts (All-tail (IsAtomOver p q) t ts h))
@@ -86,7 +86,7 @@ module _ (p : List ℕ → Bool) (q : Pred → Bool) where
 
   -- ---- the rules
   -- the atom at a place, or the head where there is none
-  atom_or_head : (ts : List (Tree ℕ)) (i : ℕ) (t : Tree ℕ) → IsAtomOver p q t → All (IsAtomOver p q) ts → IsAtomOver p q (slice_index_or ts i t)
+  pub atom_or_head : (ts : List (Tree ℕ)) (i : ℕ) (t : Tree ℕ) → IsAtomOver p q t → All (IsAtomOver p q) ts → IsAtomOver p q (slice_index_or ts i t)
   atom_or_head [] i t h k = h
   atom_or_head (u ∷ us) zero t h k = All-head (IsAtomOver p q) u us k
   atom_or_head (u ∷ us) (suc i) t h k = atom_or_head us i t h (All-tail (IsAtomOver p q) u us k)

@@ -18,24 +18,24 @@ module _ (p : List ℕ → Bool) where
   abbrev BothHave : Equation → Type 0
   BothHave e = HasNames p e.0 × HasNames p e.1
 
-  abbrev AllBound : List Binding → Type 0
+  abbrev pub AllBound : List Binding → Type 0
   AllBound [] = Unit {0}
   AllBound (b ∷ bs) = HasNames p b.1 × AllBound bs
 
-  abbrev BoundIfAny : Option (List Binding) → Type 0
+  abbrev pub BoundIfAny : Option (List Binding) → Type 0
   BoundIfAny None = Unit {0}
   BoundIfAny (Some bs) = AllBound bs
 
-  variable_has : (v : Variable) → HasNames p (Var v)
+  pub variable_has : (v : Variable) → HasNames p (Var v)
   unfolding HasNames
   variable_has v = tt
 
   -- ---- equations taken apart
-  both_bound : (bs cs : List Binding) → AllBound bs → AllBound cs → AllBound (bs ++ cs)
+  pub both_bound : (bs cs : List Binding) → AllBound bs → AllBound cs → AllBound (bs ++ cs)
   both_bound [] cs h k = k
   both_bound (b ∷ bs) cs h k = (h.0, both_bound bs cs h.1 k)
 
-  joined_bound : (o o' : Option (List Binding)) → BoundIfAny o → BoundIfAny o' → BoundIfAny (joined o o')
+  pub joined_bound : (o o' : Option (List Binding)) → BoundIfAny o → BoundIfAny o' → BoundIfAny (joined o o')
   joined_bound None o' h k = tt
   joined_bound (Some bs) None h k = tt
   joined_bound (Some bs) (Some cs) h k = both_bound bs cs h k
@@ -49,7 +49,7 @@ module _ (p : List ℕ → Bool) where
   application_bound Any v t h = (h, tt)
   application_bound Num v t h = tt
 
-  if_bound : (b : Bool) (o : Option (List Binding)) → BoundIfAny o → BoundIfAny (if b then o else None)
+  pub if_bound : (b : Bool) (o : Option (List Binding)) → BoundIfAny o → BoundIfAny (if b then o else None)
   if_bound true o h = h
   if_bound false o h = tt
 

@@ -12,10 +12,13 @@ use Rattle.clause_model.specs.Load.{load_one, load, Program}
 use Rattle.clp_meaning.specs.Laws.{without_atom}
 use Rattle.unfold_model.specs.Resolvent.{resolvent}
 use Rattle.replace_model.specs.Rows.{with_row, without_row, projected, equated}
+use Rattle.fold_model.specs.Images.{matched_atoms}
+use Rattle.fold_model.specs.Folded.{folded_clause}
 use Rattle.map_model.specs.declared.step.Step.{Step}
 use Rattle.map_model.specs.State.{State, start_state}
+use Rattle.map_model.specs.Folding.{images}
 use Rattle.map_model.specs.After.{after, run}
-use Rattle.name_laws.specs.Names.{HasNames, AreOver, EquationsHaveNames, EachPlaced, EachLive}
+use Rattle.name_laws.specs.Names.{HasNames, AreOver, EquationsHaveNames, EachPlaced, EachKept, IsStepOver}
 
 -- the names in the images are among those of the equations
 abbrev pub UnifierKeepsNames : Type 0
@@ -64,18 +67,24 @@ RowRulesKeepNames =
     × ((v : ℕ) → AreOver p q (projected c v))
     × ((v w : ℕ) → AreOver p q (equated c v w))
 
--- of the live clauses of a start state, of the state after a step, and of that after a script
+-- a clause c that is folded by a definition n
+abbrev pub FoldedClauseKeepsNames : Type 0
+FoldedClauseKeepsNames =
+    (p : List ℕ → Bool) (q : Pred → Bool) (n c : Clause) (at with keep : List ℕ) (bs : List Binding) → AreOver p q n → AreOver p q c
+    → matched_atoms n c at ≡ Some bs → AreOver p q (folded_clause n c (images n c with bs) at keep)
+
+-- of the live clauses and the kept definitions of a start state, of the state after a step, and of that after a script
 abbrev pub StartKeepsNames : Type 0
 StartKeepsNames =
     (p : List ℕ → Bool) (q : Pred → Bool) (clauses : List (Option Clause)) (predicates : List Pred)
-    → EachPlaced (AreOver p q) clauses → EachLive (AreOver p q) (start_state clauses predicates)
+    → EachPlaced (AreOver p q) clauses → EachKept (AreOver p q) (start_state clauses predicates)
 
 abbrev pub StepKeepsNames : Type 0
 StepKeepsNames =
-    (p : List ℕ → Bool) (q : Pred → Bool) (s t : State) (step : Step) → EachLive (AreOver p q) s
-    → after s step ≡ Ok t → EachLive (AreOver p q) t
+    (p : List ℕ → Bool) (q : Pred → Bool) (s t : State) (step : Step) → EachKept (AreOver p q) s → IsStepOver p q step
+    → after s step ≡ Ok t → EachKept (AreOver p q) t
 
 abbrev pub RunKeepsNames : Type 0
 RunKeepsNames =
-    (p : List ℕ → Bool) (q : Pred → Bool) (s t : State) (steps : List Step) → EachLive (AreOver p q) s
-    → run s steps ≡ Ok t → EachLive (AreOver p q) t
+    (p : List ℕ → Bool) (q : Pred → Bool) (s t : State) (steps : List Step) → EachKept (AreOver p q) s → All (IsStepOver p q) steps
+    → run s steps ≡ Ok t → EachKept (AreOver p q) t

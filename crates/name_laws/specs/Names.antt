@@ -5,6 +5,9 @@ use Rattle.clp_model.specs.declared.predicate.Pred.{Pred}
 use Rattle.clp_model.specs.Trees.{IsApplication}
 use Rattle.clp_model.specs.Clauses.{Clause}
 use Rattle.clp_model.specs.Predicates.{predicate_of}
+use Rattle.clause_store.specs.Source.{meaning_of}
+use Rattle.map_model.specs.declared.step.Step.{Step}
+use Rattle.map_model.specs.declared.step.Step.TheVariants.{Define}
 use Rattle.map_model.specs.State.{State, live_clauses}
 
 -- each name in the tree passes the test
@@ -36,6 +39,11 @@ EquationsHaveNames p c = All (λ e. HasNames p e.0 × HasNames p e.1) c.equation
 abbrev pub EachPlaced : (Clause → Type 0) → List (Option Clause) → Type 0
 EachPlaced P clauses = (c : Clause) → Contains clauses (Some c) → P c
 
--- each live clause of a state
-abbrev pub EachLive : (Clause → Type 0) → State → Type 0
-EachLive P s = All P (live_clauses s)
+-- each live clause and each kept definition of a state
+abbrev pub EachKept : (Clause → Type 0) → State → Type 0
+EachKept P s = All P (live_clauses s) × All P s.definitions
+
+-- so is the definition that a step adds, with its equations
+abbrev pub IsStepOver : (List ℕ → Bool) → (Pred → Bool) → Step → Type 0
+IsStepOver p q (Define source) = EquationsHaveNames p (meaning_of source) × AreOver p q (meaning_of source)
+IsStepOver p q _ = Unit {0}

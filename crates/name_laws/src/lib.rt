@@ -3,7 +3,7 @@
 //! length and for those of a grammar. There is no code here: each law is the contract of an empty function.
 #![tactic(auto)]
 
-ghost use Rattle.name_laws.specs.Laws.{UnifierKeepsNames, CanonicalFormKeepsNames, NewClauseKeepsNames, SolvedClauseKeepsNames, LoadedClauseKeepsNames, LoadingKeepsNames, ResolventKeepsNames, WithoutAtomKeepsNames, RowRulesKeepNames, StartKeepsNames, StepKeepsNames, RunKeepsNames};
+ghost use Rattle.name_laws.specs.Laws.{UnifierKeepsNames, CanonicalFormKeepsNames, NewClauseKeepsNames, SolvedClauseKeepsNames, LoadedClauseKeepsNames, LoadingKeepsNames, ResolventKeepsNames, WithoutAtomKeepsNames, RowRulesKeepNames, FoldedClauseKeepsNames, StartKeepsNames, StepKeepsNames, RunKeepsNames};
 
 /// The names in the images of a most general unifier are among those of the equations.
 pub fn unifier_keeps_names()
@@ -28,15 +28,18 @@ pub fn loading_keeps_names()
 {}
 
 /// A resolvent has names and predicates of its two clauses; a clause without one of its atoms, with other rows, or with
-/// a variable in the place of another has those of the clause.
+/// a variable in the place of another has those of the clause; and a folded clause has those of the clause and of the
+/// definition.
 pub fn rules_keep_names()
     ensures resolvent { ResolventKeepsNames }
     ensures without { WithoutAtomKeepsNames }
     ensures rows { RowRulesKeepNames }
+    ensures folded { FoldedClauseKeepsNames }
 {}
 
-/// The live clauses of a start state have names and predicates of the loaded clauses, and those after an accepted step
-/// or script have names and predicates of those before.
+/// The live clauses of a start state have names and predicates of the loaded clauses. The live clauses and the kept
+/// definitions after an accepted step or script have names and predicates of those before and of the definitions that it
+/// adds.
 pub fn steps_keep_names()
     ensures start { StartKeepsNames }
     ensures step { StepKeepsNames }

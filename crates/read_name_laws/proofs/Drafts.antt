@@ -20,7 +20,7 @@ use Rattle.clp_grammar.specs.declared.role.Role.{Role}
 use Rattle.clp_grammar.specs.declared.role.Role.TheVariants.{Ends, Opens, Closes, Stands, Fails}
 use Rattle.clp_grammar.specs.Input.{Input, max_open, start, passed, left, sees, expect, eat, separated}
 use Rattle.clp_grammar.specs.Expressions.{expression}
-use Rattle.clp_grammar.specs.Goals.{related, relation_of, max_inside, num_variable, num_by, constraint_by, constrained, braces, goal_by, plain_goal, one_goal}
+use Rattle.clp_grammar.specs.Goals.{related, comparison_by, comparison, relation_of, max_inside, num_variable, num_by, constraint_by, constrained, braces, goal_by, plain_goal, one_goal}
 use Rattle.clp_grammar.specs.Drafts.{body, end, draft}
 use Rattle.clp_grammar.specs.Directives.{role, directive_by, directive_from, directive}
 use Rattle.read_name_laws.proofs.Parts.{HasTexts, GoalHasTexts, DraftHasTexts}
@@ -38,7 +38,7 @@ relation_good l.AtLeast r h = refl
 relation_good l.Greater r h = refl
 relation_good _ r h = absurd (cc)
 
-abbrev BothHaveTexts : Comparison → Type 0
+abbrev pub BothHaveTexts : Comparison → Type 0
 BothHaveTexts c = HasTexts c.first × HasTexts c.second
 
 related_texts : (more : ℕ) (first : Expression) (relation : Relation) → HasTexts first → (i : Input) → IsText i → relation_of (lexeme i.remaining) ≡ Some relation → Reads BothHaveTexts (related more first relation i)
@@ -47,6 +47,16 @@ related_texts more first relation f i u comes =
     then_read HasTexts BothHaveTexts (expression more (passed i)) (λ second. pure (record { left = left i; relation = relation; first = first; second = second }))
     (expression_texts more (passed i) (passed_text i (lexeme i.remaining) u refl (relation_good (lexeme i.remaining) relation comes))) (λ second g.
     from_pure BothHaveTexts (record { left = left i; relation = relation; first = first; second = second }) (f, g))
+
+pub comparison_texts : (more : ℕ) → From BothHaveTexts (comparison more)
+unfolding comparison
+comparison_texts more i u =
+    then_read HasTexts BothHaveTexts (expression more i) (λ first j. comparison_by more first (relation_of (lexeme j.remaining)) j) (expression_texts more i u) (λ first f j v.
+    go first f j v (relation_of (lexeme j.remaining)) refl)
+  where
+    go : (first : Expression) → HasTexts first → (j : Input) → IsText j → (o : Option Relation) → relation_of (lexeme j.remaining) ≡ o → Reads BothHaveTexts (comparison_by more first o j)
+    go first f j v (Some relation) e = related_texts more first relation f j v e
+    go first f j v None e = tt
 
 -- ---- braces
 

@@ -4,3 +4,6 @@ pub mod Rules
 pub mod Drafts
 pub mod Terms
 pub mod Programs
+pub mod Walk
+pub mod Scripts
+pub mod Steps

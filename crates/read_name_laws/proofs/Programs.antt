@@ -31,11 +31,11 @@ use Rattle.read_name_laws.proofs.Terms.{meaning_texts}
 
 -- ---- clauses
 
-abbrev IsReadText : Result (SourceClause × Remaining) Fault → Type 0
+abbrev pub IsReadText : Result (SourceClause × Remaining) Fault → Type 0
 IsReadText (Ok p) = HasTextNames p.0 × IsUtf8 p.1.text
 IsReadText (Err e) = Unit {0}
 
-clause_texts : (r : Remaining) → IsUtf8 r.text → IsReadText (clause r)
+pub clause_texts : (r : Remaining) → IsUtf8 r.text → IsReadText (clause r)
 unfolding clause_with
 clause_texts r u = go (draft end (start r)) refl
   where
@@ -95,7 +95,7 @@ abbrev not_text : List ℕ → Fault
 not_text text = record { left = length text - utf8_valid_len text; kind = fault.NotUtf8 }
 
 -- a text with no fault of UTF-8 is in UTF-8
-no_fault : (text : List ℕ) → not_utf8 text ≡ None → IsUtf8 text
+pub no_fault : (text : List ℕ) → not_utf8 text ≡ None → IsUtf8 text
 unfolding not_utf8 utf8_valid_len
 no_fault text e = go (nat_lt (utf8_valid_len text) (length text)) refl e
   where

@@ -14,7 +14,8 @@ use Rattle.clp_rank.specs.Rules.{Removed, here, later, Taken, Subsumed, Useless,
 use Rattle.clp_rank.specs.Entries.{Entry, setting}
 use Rattle.clause_laws.proofs.Rows.{all_each, each_all, renamed_holds}
 use Rattle.rule_laws.specs.Steps.{IsHeld}
-use Rattle.rule_laws.specs.Folding.{is_among, defined_in, number_in}
+use Rattle.rule_laws.specs.Folding.{is_among, defined_in}
+use Rattle.fold_model.specs.Internal.{number_in}
 use Rattle.rule_laws.specs.Dropping.{Covers, IsSubsumption, IsUseless, IsKnown, IsDefinition, OfKnown}
 use Rattle.rule_laws.proofs.Predicates.{grounds_predicate}
 use Rattle.rule_laws.proofs.Unfolding.{none_hold}

@@ -32,7 +32,9 @@ use Rattle.clause_laws.proofs.Numbering.{canonical_form_keeps_instances}
 use Rattle.clause_laws.proofs.Distinct.{among_or_not}
 use Rattle.clause_laws.proofs.Upto.{number_equality}
 use Rattle.rule_laws.specs.Steps.{IsHeld}
-use Rattle.rule_laws.specs.Folding.{is_among, defined_in, number_in, image_row, RespectsSorts, IsInternal, IsFolded, IsFolding}
+use Rattle.rule_laws.specs.Folding.{is_among, defined_in, RespectsSorts, IsInternal, IsFolded, IsFolding}
+use Rattle.fold_model.specs.Folded.{image_row}
+use Rattle.fold_model.specs.Internal.{number_in}
 use Rattle.rule_laws.proofs.Joint.{scaled_row}
 use Rattle.rule_laws.proofs.Unfolding.{same_value_of, same_grounds, same_named, none_hold}
 use Rattle.rule_laws.proofs.Predicates.{grounds_predicate}

@@ -10,7 +10,8 @@ use Rattle.unify_model.specs.Substituting.{substituted}
 use Rattle.clp_rank.specs.Rules.{Taken}
 use Rattle.clp_rank.specs.Entries.{Entry}
 use Rattle.rule_laws.specs.Steps.{IsHeld}
-use Rattle.rule_laws.specs.Folding.{is_among, image_row, RespectsSorts}
+use Rattle.rule_laws.specs.Folding.{is_among, RespectsSorts}
+use Rattle.fold_model.specs.Folded.{image_row}
 
 -- the clause e covers the clause c: a substitution makes c's head of its head, atoms at places of c of its atoms, and
 -- rows that c's rows entail of its rows

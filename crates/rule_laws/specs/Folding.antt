@@ -2,15 +2,16 @@
 use Rattle.std.specs.Prelude.{◌≡◌, ◌⊎◌, ℕ, Bool, true, false, List, [], ◌++◌, map, Contains, All}
 use Rattle.std.specs.List.{list_any}
 use Rattle.clp_model.specs.declared.sort.Sort.TheVariants.{Num}
-use Rattle.clp_model.specs.declared.tree.Tree.{Tree, Var, App'}
+use Rattle.clp_model.specs.declared.tree.Tree.{Tree, Var}
 use Rattle.clp_model.specs.declared.predicate.Pred.{Pred}
 use Rattle.clp_model.specs.Trees.{variables, variables_in}
 use Rattle.clp_model.specs.Values.{GroundAtom}
 use Rattle.clp_model.specs.Clauses.{Clause, Row, sort_in}
 use Rattle.clp_model.specs.Predicates.{predicate_of, ground_predicate, same_predicate}
-use Rattle.linear_model.specs.Changes.{renamed}
 use Rattle.linear_model.specs.Certificates.{Entails}
 use Rattle.unify_model.specs.Substituting.{substituted}
+use Rattle.fold_model.specs.Internal.{number_in}
+use Rattle.fold_model.specs.Folded.{image_row}
 use Rattle.clp_rank.specs.Rules.{Removed, Taken}
 use Rattle.clp_rank.specs.Entries.{Entry}
 use Rattle.clause_model.specs.Variables.{rows_variables}
@@ -23,15 +24,6 @@ is_among preds p = list_any (λ q. same_predicate q p) preds
 
 abbrev pub defined_in : List Pred → GroundAtom → Bool
 defined_in preds a = is_among preds (ground_predicate a)
-
--- the number of a tree that is a variable
-abbrev pub number_in : Tree ℕ → ℕ
-number_in (Var n) = n
-number_in (App' name shape args) = 0
-
--- what a row becomes: the image of each of its variables is a variable
-abbrev pub image_row : (ℕ → Tree ℕ) → Row → Row
-image_row s r = renamed (λ x. number_in (s x)) r
 
 -- a Num variable becomes a Num variable
 abbrev pub RespectsSorts : Clause → Clause → (ℕ → Tree ℕ) → Type 0

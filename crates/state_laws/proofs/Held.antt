@@ -23,7 +23,7 @@ use Rattle.clause_laws.proofs.Loading.{solved_shape}
 use Rattle.unfold_model.specs.Resolvent.{past, joined_clause, resolvent}
 use Rattle.rule_laws.specs.Steps.{IsHeld}
 use Rattle.rule_laws.proofs.Unfolding.{nums_joined}
-use Rattle.state_laws.specs.WellFormed.{side_variables, IsWellFormed}
+use Rattle.map_model.specs.WellFormed.{side_variables, IsWellFormed}
 use Rattle.state_laws.specs.Laws.{LoadedClausesAreHeld}
 use Rattle.state_laws.proofs.Variables.{renamed_from, among_take, among_drop, among_remove, among_mapped_all}
 use Rattle.state_laws.proofs.Sound.{Placed, TreeFits, Fits, held_of, held_fits, places_fit, nums_fit}

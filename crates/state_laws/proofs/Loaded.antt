@@ -1,30 +1,38 @@
 -- The clauses of a loaded program are held, and prove what their source proves.
-use Rattle.std.proofs.Common.{◌≡◌, ℕ, suc, ◌+◌, List, [], ◌∷◌, ◌++◌, refl, sym, ◌∙◌, ap, subst, Bool, true, false}
-use Rattle.std.specs.Prelude.{nat_lt, if◌then◌else◌, Option, Some, None, Result, Ok, Err}
+use Rattle.std.proofs.Common.{◌≡◌, ◌↔◌, ℕ, suc, ◌+◌, List, [], ◌∷◌, ◌++◌, refl, sym, ◌∙◌, ap, subst, Bool, true, false}
+use Rattle.std.specs.Prelude.{nat_lt, if◌then◌else◌, Option, Some, None, Result, Ok, Err, All, Contains}
 use Rattle.std.proofs.lemmas.List.{append_assoc, append-nil}
 use Rattle.clp_model.specs.declared.predicate.Pred.{Pred}
 use Rattle.clp_model.specs.declared.limit.Limit.TheVariants.{Nodes}
 use Rattle.clp_model.specs.Values.{GroundAtom}
-use Rattle.clp_model.specs.Clauses.{Clause, Instance}
+use Rattle.clp_model.specs.Clauses.{Clause}
 use Rattle.clp_model.specs.Canonical.{clause_size}
-use Rattle.clp_model.specs.Predicates.{initial_predicates}
-use Rattle.clp_model.specs.Proof.{Node, InstanceIn}
-use Rattle.clp_model.proofs.Carrying.{carried}
-use Rattle.clp_model.proofs.Membership.{Among, first, next, to_among, from_among}
-use Rattle.clp_meaning.specs.Laws.{HaveSameInstances}
+use Rattle.clp_model.specs.Predicates.{initial_predicates, program_predicates, ground_predicate}
+use Rattle.clp_model.specs.Proof.{Provable}
+use Rattle.clp_model.proofs.Membership.{Among, first, next, to_among}
 use Rattle.unify_laws.proofs.Solved.{among_cases}
 use Rattle.clause_model.specs.Canonical.{Refusal, TooLarge, IsCanonical}
 use Rattle.clause_model.specs.Load.{load_one, Program, Refused, counted, loaded_after, with_predicates, load}
-use Rattle.clause_laws.specs.Laws.{AllStand, AllNum}
+use Rattle.clause_laws.specs.Laws.{AllNum}
 use Rattle.clause_laws.proofs.Loading.{loading_keeps}
 use Rattle.clause_laws.proofs.Rows.{all_each, each_all}
 use Rattle.rule_laws.specs.Steps.{IsHeld}
-use Rattle.map_model.specs.State.{start_state}
-use Rattle.state_laws.specs.WellFormed.{IsWellFormed, clauses_at}
-use Rattle.state_laws.specs.Laws.{LoadedProgramsAreHeld, RunOfLoadedProgramIsKept, LoadingKeepsProvability, RunOfLoadedProgramKeepsProvability}
+use Rattle.rule_laws.specs.Dropping.{IsKnown}
+use Rattle.map_model.specs.declared.step.Step.{Step}
+use Rattle.map_model.specs.State.{State, live_clauses, is_among, start_state}
+use Rattle.map_model.specs.Defined.{definitions_of}
+use Rattle.map_model.specs.FormedSteps.{IsFormedStep}
+use Rattle.map_model.specs.After.{run}
+use Rattle.map_model.specs.WellFormed.{IsWellFormed, clauses_at}
+use Rattle.state_laws.specs.KeptState.{loaded_clauses, IsKeptState}
+use Rattle.state_laws.specs.Laws.{LoadedProgramsAreHeld, GrowsBy, RunOfLoadedProgramIsKept, LoadingKeepsProvability, RunOfLoadedProgramKeepsProvability, RunOfLoadedProgramKeepsItsPredicates}
+use Rattle.state_laws.proofs.Predicates.{initial_has, of_clause}
+use Rattle.state_laws.proofs.Known.{speaks_known, own_predicates, loaded_speaks}
 use Rattle.state_laws.proofs.Held.{loaded_is_held}
-use Rattle.state_laws.proofs.Running.{run_keeps_state}
-use Rattle.state_laws.proofs.Starting.{start_is_kept, run_keeps}
+use Rattle.state_laws.proofs.Standing.{standing_proves}
+use Rattle.state_laws.proofs.Running.{run_keeps_state, run_keeps_base}
+use Rattle.state_laws.proofs.Initial.{live_and_loaded}
+use Rattle.state_laws.proofs.Starting.{loaded_are, start_is_kept, live_proves}
 
 -- ---- each place is what its source clause is loaded as
 abbrev AllLoaded : List (Option Clause) → List Clause → Type 0
@@ -81,55 +89,75 @@ source_of (Some x ∷ ds) (c ∷ cs) h d a = among_cases a
     (λ q. (c, first, h.0 ∙ ap (λ y. Ok (Some y)) (sym q)))
     (λ m. let w = source_of ds cs h.1 d m in (w.0, next w.1, w.2))
 
+-- the predicates of a loaded program are those of its source
+predicates_of : (source : List Clause) (p : Program) → load source ≡ Ok p → p.predicates ≡ initial_predicates source
+unfolding load
+predicates_of source p e = by (loaded_after 1 [] 0 source) e
+  where
+    predicates_are : {ps : List Pred} {cs : List (Option Clause)} → ◌≡◌ {A = Result Program Refused} (Ok (record { clauses = cs; predicates = ps })) (Ok p) → p.predicates ≡ ps
+    predicates_are {ps} {cs} h = let out : Result Program Refused → List Pred = elim [ Ok q ↦ q.predicates | Err r ↦ ps ] in sym (ap out h)
+
+    by : (o : Result (List (Option Clause)) Refused) → with_predicates (initial_predicates source) o ≡ Ok p → p.predicates ≡ initial_predicates source
+    by (Err r) h = absurd (cc)
+    by (Ok made) h = predicates_are h
+
 pub loaded_program_is_held : LoadedProgramsAreHeld
 loaded_program_is_held source p formed e =
-    let each : (d : Clause) → Among d (clauses_at p.clauses) → IsHeld d × IsCanonical d =
-    λ d a. let w = source_of p.clauses source (all_loaded source p e) d a in loaded_is_held w.0 d (all_each IsWellFormed source formed w.0 w.1) w.2 in
-    (each_all IsHeld (clauses_at p.clauses) (λ d a. (each d a).0), each_all IsCanonical (clauses_at p.clauses) (λ d a. (each d a).1))
+    let each : (d : Clause) → Among d (clauses_at p.clauses) → IsHeld d × IsCanonical d × IsKnown p.predicates d =
+    λ d a.
+    let w = source_of p.clauses source (all_loaded source p e) d a in
+    let well = all_each IsWellFormed source formed w.0 w.1 in
+    let held = loaded_is_held w.0 d well w.2 in
+    let ps = initial_predicates source in
+    let speaks = loaded_speaks ps w.0 d well w.2 (own_predicates ps w.0 (λ q m. initial_has source q (of_clause source w.0 q w.1 m))) in
+    (held.0, held.1, subst (λ qs. IsKnown qs d) (sym (predicates_of source p e)) (speaks_known ps d speaks)) in (
+      each_all IsHeld (clauses_at p.clauses) (λ d a. (each d a).0),
+      each_all IsCanonical (clauses_at p.clauses) (λ d a. (each d a).1),
+      each_all (IsKnown p.predicates) (clauses_at p.clauses) (λ d a. (each d a).2),
+    )
 
 -- ---- what is provable
--- an instance of a source clause is one of the clause at its place
-stands_for : (ds : List (Option Clause)) (cs : List Clause) → AllStand ds cs → (c : Clause) → Among c cs → (a : GroundAtom) (body : List GroundAtom) → Instance c a body → (d : Clause) × Among d (clauses_at ds) × Instance d a body
-stands_for [] [] h c m a body i = elim m [ ]
-stands_for [] (x ∷ cs) h c m a body i = absurd h
-stands_for (d ∷ ds) [] h c m a body i = absurd h
-stands_for (None ∷ ds) (x ∷ cs) h c m a body i = among_cases m
-    (λ q. absurd (h.0 a body (subst (λ y. Instance y a body) q i)))
-    (λ n. stands_for ds cs h.1 c n a body i)
-stands_for (Some d ∷ ds) (x ∷ cs) h c m a body i = among_cases m
-    (λ q. (d, first, h.0.0.0 a body (subst (λ y. Instance y a body) q i)))
-    (λ n. let w = stands_for ds cs h.1 c n a body i in (w.0, next w.1, w.2))
-
--- and back
-stood_for : (ds : List (Option Clause)) (cs : List Clause) → AllStand ds cs → (d : Clause) → Among d (clauses_at ds) → (c : Clause) × Among c cs × HaveSameInstances d c
-stood_for [] [] h d m = elim m [ ]
-stood_for [] (x ∷ cs) h d m = absurd h
-stood_for (e ∷ ds) [] h d m = absurd h
-stood_for (None ∷ ds) (x ∷ cs) h d m = let w = stood_for ds cs h.1 d m in (w.0, next w.1, w.2)
-stood_for (Some e ∷ ds) (x ∷ cs) h d m = among_cases m
-    (λ q. (x, first, subst (λ y. HaveSameInstances y x) (sym q) h.0.0))
-    (λ n. let w = stood_for ds cs h.1 d n in (w.0, next w.1, w.2))
-
 pub loading_keeps_provable : LoadingKeepsProvability
-loading_keeps_provable source p e nums a =
-    let ds = clauses_at p.clauses in
-    let all = loading_keeps source p nums e in (
-      (λ q. carried (InstanceIn ds) (InstanceIn source) (λ b body r ps. let w = stood_for p.clauses source all r.0 (to_among ds r.0 r.1) in Node (w.0, from_among w.1, w.2.1 b body r.2) ps) q),
-      (λ q. carried (InstanceIn source) (InstanceIn ds) (λ b body r ps. let w = stands_for p.clauses source all r.0 (to_among source r.0 r.1) b body r.2 in Node (w.0, from_among w.1, w.2) ps) q),
-    )
+loading_keeps_provable source p e nums a = standing_proves p.clauses source (loading_keeps source p nums e) a
 
 all_num : (source : List Clause) → ((c : Clause) → Among c source → IsWellFormed c) → AllNum source
 all_num [] h = tt
 all_num (c ∷ cs) h = ((h c first).nums, all_num cs (λ d m. h d (next m)))
 
+-- an accepted run of formed steps of a loaded program
+module _ (source : List Clause) (p : Program) (steps : List Step) (t : State) (formed : All IsWellFormed source) (e : load source ≡ Ok p) (h : run (start_state p.clauses p.predicates) steps ≡ Ok t) (steps_formed : All IsFormedStep steps) where
+  abbrev s : State
+  s = start_state p.clauses p.predicates
+
+  run_is_kept : IsKeptState t
+  run_is_kept = let held = loaded_program_is_held source p formed e in run_keeps_state s t steps h steps_formed (start_is_kept p.clauses p.predicates held.0 held.1 held.2)
+
+  grows : GrowsBy (definitions_of steps) s t
+  grows = run_keeps_base s t steps h steps_formed
+
+  nums : AllNum source
+  nums = all_num source (all_each IsWellFormed source formed)
+
+  run_proves : (a : GroundAtom) → Provable (live_clauses t) a ↔ Provable (source ++ definitions_of steps) a
+  run_proves = live_proves p.clauses p.predicates steps t run_is_kept grows p.clauses source refl (loading_keeps source p nums e)
+
+  run_proves_alone : (a : GroundAtom) → Contains (program_predicates source) (ground_predicate a) → Provable (live_clauses t) a ↔ Provable source a
+  run_proves_alone a inside =
+      let initial : is_among t.initials (ground_predicate a) ≡ true =
+      subst (λ ps. is_among ps (ground_predicate a) ≡ true) (sym (grows.initials ∙ predicates_of source p e))
+      (initial_has source (ground_predicate a) (to_among (program_predicates source) (ground_predicate a) inside)) in
+      let live = live_and_loaded t run_is_kept a initial in
+      let loaded : loaded_clauses t ≡ clauses_at p.clauses = grows.loaded ∙ loaded_are p.clauses p.predicates in
+      let load = loading_keeps_provable source p e nums a in (
+        λ q. load.0 (subst (λ xs. Provable xs a) loaded (live.0 q)),
+        λ q. live.1 (subst (λ xs. Provable xs a) (sym loaded) (load.1 q)),
+      )
+
 pub loaded_run_is_kept : RunOfLoadedProgramIsKept
-loaded_run_is_kept source p steps t formed e h rising =
-    let held = loaded_program_is_held source p formed e in
-    run_keeps_state (start_state p.clauses p.predicates) t steps h rising (start_is_kept p.clauses p.predicates held.0 held.1)
+loaded_run_is_kept source p steps t formed e h steps_formed = run_is_kept source p steps t formed e h steps_formed
 
 pub loaded_run_keeps : RunOfLoadedProgramKeepsProvability
-loaded_run_keeps source p steps t formed e h rising a =
-    let held = loaded_program_is_held source p formed e in
-    let run = run_keeps p.clauses p.predicates steps t held.0 held.1 h rising a in
-    let load = loading_keeps_provable source p e (all_num source (all_each IsWellFormed source formed)) a in
-    ((λ q. load.0 (run.0 q)), (λ q. run.1 (load.1 q)))
+loaded_run_keeps source p steps t formed e h steps_formed = run_proves source p steps t formed e h steps_formed
+
+pub loaded_run_keeps_predicates : RunOfLoadedProgramKeepsItsPredicates
+loaded_run_keeps_predicates source p steps t formed e h steps_formed = run_proves_alone source p steps t formed e h steps_formed

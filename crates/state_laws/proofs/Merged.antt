@@ -10,19 +10,22 @@ use Rattle.clp_rank.proofs.Narrowing.{narrowing_keeps}
 use Rattle.unify_laws.proofs.Solved.{among_cases}
 use Rattle.clause_model.specs.Canonical.{new_clause, canonical_form, IsCanonical}
 use Rattle.rule_laws.specs.Steps.{IsHeld, IsMerge}
+use Rattle.rule_laws.specs.Dropping.{IsKnown}
 use Rattle.rule_laws.proofs.Merging.{narrows}
 use Rattle.map_model.specs.declared.refusal.Refusal.{Refusal}
 use Rattle.map_model.specs.declared.refusal.Refusal.TheVariants.{NoAtom, RepeatedPosition, NotEqualAtoms}
 use Rattle.map_model.specs.State.{Entry, State}
 use Rattle.map_model.specs.SameTree.{same_tree}
 use Rattle.map_model.specs.Rewriting.{Draft}
-use Rattle.map_model.specs.Merging.{in_range, atom_of, first_broken, merged}
-use Rattle.state_laws.specs.KeptState.{marked, live_of, base_of, defined_by, IsKeptState}
+use Rattle.map_model.specs.Merging.{atom_of, first_broken, merged}
+use Rattle.fold_model.specs.Positions.{in_range}
+use Rattle.state_laws.specs.KeptState.{marked, live_of, base_of, defined_by, known_of, IsKeptState}
 use Rattle.state_laws.proofs.SameTree.{same_tree_is}
 use Rattle.state_laws.proofs.Held.{new_is_held, without_is_held}
+use Rattle.state_laws.proofs.Known.{Speaks, new_is_known, without_speaks}
 use Rattle.state_laws.proofs.Live.{goes_from}
 use Rattle.state_laws.proofs.Made.{Makes, entry_for}
-use Rattle.state_laws.proofs.Rewritten.{Rewrites, is_marked, drafted_by, now_live, was, kept, old, state_after, entry_held, entry_canonical}
+use Rattle.state_laws.proofs.Rewritten.{Rewrites, is_marked, drafted_by, now_live, was, kept, old, state_after, entry_held, entry_canonical, entry_known}
 use Rattle.state_laws.proofs.Unfolded.{place_of}
 
 -- ---- the positions of a merge that is not refused
@@ -89,13 +92,16 @@ module _ (s t : State) (id i j : ℕ) (e : Entry) (rewrites : Rewrites s t id e 
     e_canonical : IsCanonical e.clause
     e_canonical = entry_canonical s k e (goes_from e s.entries (id - 1) rewrites.here rewrites.is_live)
 
+    less_speaks : Speaks (known_of s) less
+    less_speaks = without_speaks (known_of s) e.clause (j - 1) (entry_known s k e (goes_from e s.entries (id - 1) rewrites.here rewrites.is_live))
+
     -- each new entry is that of the narrower clause
-    new_is : (d : Draft) (x : Entry) (n : ℕ) → Among d drafts → Makes n d x → (marked x ≡ narrower) × IsHeld x.clause × IsCanonical x.clause
+    new_is : (d : Draft) (x : Entry) (n : ℕ) → Among d drafts → Makes n d x → (marked x ≡ narrower) × IsHeld x.clause × IsCanonical x.clause × IsKnown (known_of s) x.clause
     new_is d x n a m = among_cases a
         (λ q.
         let c : new_clause less ≡ Ok x.clause = ap (λ (y : Draft). new_clause y.clause) (sym q) ∙ m.clause in
         let h = new_is_held less x.clause (without_is_held e.clause (j - 1) e_held) e_canonical.rising c in
-        (is_marked x (canonical_form less) e.mark h.0 (m.mark ∙ ap (λ (y : Draft). y.mark) q), h.1, h.2))
+        (is_marked x (canonical_form less) e.mark h.0 (m.mark ∙ ap (λ (y : Draft). y.mark) q), h.1, h.2, new_is_known (known_of s) less x.clause h.0 less_speaks))
         (λ b. elim b [ ])
 
     made_now : Contains (live_of t) narrower
@@ -119,4 +125,4 @@ module _ (s t : State) (id i j : ℕ) (e : Entry) (rewrites : Rewrites s t id e 
     pub merge_keeps_state : IsKeptState t
     merge_keeps_state = state_after s t id e drafts rewrites k
         (narrowing_keeps (setting (defined_by s)) (Contains (base_of s)) (Contains (live_of s)) (Contains (live_of t)) (marked e) narrower (narrows (defined_by s) (live_of s) (live_of t) (marked e) (i - 1) (j - 1) is_merge) k.ranked)
-        (λ x a. let d = drafted_by s t id e drafts rewrites x a in let h = new_is d.0 x (length s.steps + 1) d.1 d.2 in (h.1, h.2))
+        (λ x a. let d = drafted_by s t id e drafts rewrites x a in let h = new_is d.0 x (length s.steps + 1) d.1 d.2 in (h.1, h.2, h.3))

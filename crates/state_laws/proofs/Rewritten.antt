@@ -11,14 +11,17 @@ use Rattle.clp_rank.specs.Entries.{Entry as Marked, RankedOver}
 use Rattle.clause_model.specs.Canonical.{IsCanonical}
 use Rattle.clause_laws.proofs.Rows.{all_each, each_all}
 use Rattle.rule_laws.specs.Folding.{defined_in}
+use Rattle.rule_laws.specs.Dropping.{IsKnown}
 use Rattle.rule_laws.specs.Steps.{IsHeld}
 use Rattle.map_model.specs.declared.step.Step.{Step}
 use Rattle.map_model.specs.declared.refusal.Refusal.{Refusal}
-use Rattle.map_model.specs.State.{Entry, State, clauses_of, entries_where, is_live, is_loaded, live_entries, live_clauses, base_clauses, if_live, live_at}
+use Rattle.map_model.specs.State.{Entry, State, entries_where, is_live, is_loaded, live_entries, live_clauses, base_clauses, if_live, live_at, defined_of}
 use Rattle.map_model.specs.Rewriting.{Draft, Rewriting, changed_at, dead_entry, new_entries, replaced, state_limit, unless_limit, within_limits, replaced_by, rewritten}
 use Rattle.fill_laws.specs.Accepted.{instead}
-use Rattle.state_laws.specs.KeptState.{marked, unmarked, live_of, base_of, defined_by, IsRanked, IsKeptState}
+use Rattle.state_laws.specs.KeptState.{marked, unmarked, live_of, base_of, defined_by, loaded_clauses, known_of, IsRanked, IsKeptDefinition, IsKeptState}
+use Rattle.state_laws.specs.Laws.{GrowsBy}
 use Rattle.state_laws.proofs.Variables.{among_map}
+use Rattle.state_laws.proofs.Known.{Speaks, known_speaks}
 use Rattle.state_laws.proofs.Live.{live, some_same, not_some, still_live, was_live, goes_from, where_append, where_all, where_none, loaded_stay}
 use Rattle.state_laws.proofs.Made.{Makes, AllMade, all_made, draft_of}
 
@@ -55,7 +58,7 @@ within_is u t h = by (state_limit u) h
     by None h = sym (state_is h)
     by (Some l) h = absurd (cc)
 
-rewritten_is : (s t : State) (r : Rewriting) → rewritten s r ≡ Ok t → (es : List Entry) × AllMade (length s.steps + 1) r.made es × (t ≡ replaced s r.dead es r.defines r.step)
+pub rewritten_is : (s t : State) (r : Rewriting) → rewritten s r ≡ Ok t → (es : List Entry) × AllMade (length s.steps + 1) r.made es × (t ≡ replaced s r.dead es r.defines r.step)
 rewritten_is s t r h = by (new_entries (length s.steps + 1) r.made) refl h
   where
     by : (o : Result (List Entry) Refusal) → new_entries (length s.steps + 1) r.made ≡ o → replaced_by s r o ≡ Ok t → (es : List Entry) × AllMade (length s.steps + 1) r.made es × (t ≡ replaced s r.dead es r.defines r.step)
@@ -69,7 +72,7 @@ rewrites_of s t id e drafts step q h =
     let w = rewritten_is s t (instead id drafts step) h in
     record { here = l.0; is_live = l.1; step = step; entries = w.0; made = w.1; is = w.2 }
 
-later_step : (n : ℕ) → nat_eq (n + 1) 0 ≡ false
+pub later_step : (n : ℕ) → nat_eq (n + 1) 0 ≡ false
 later_step n = grind (arith, nat_tests)
 
 pub is_marked : (e : Entry) (c : Clause) (b : Bool) → e.clause ≡ c → e.mark ≡ b → marked e ≡ record { clause = c; mark = b }
@@ -137,10 +140,24 @@ module _ (s t : State) (id : ℕ) (entry : Entry) (drafts : List Draft) (m : Rew
   definitions_after : t.definitions ≡ s.definitions
   definitions_after = ap (λ (u : State). u.definitions) m.is ∙ append-nil s.definitions
 
-  pub base_after : base_clauses t ≡ base_clauses s
-  base_after =
-      ap (λ cs. cs ++ t.definitions) (loaded_after (λ e. e.clause) (λ e. refl))
-      ∙ ap (λ ds. clauses_of (entries_where is_loaded s.entries) ++ ds) definitions_after
+  initials_after : t.initials ≡ s.initials
+  initials_after = ap (λ (u : State). u.initials) m.is
+
+  loaded_clauses_after : loaded_clauses t ≡ loaded_clauses s
+  loaded_clauses_after = loaded_after (λ e. e.clause) (λ e. refl)
+
+  -- nothing is defined
+  pub base_after : GrowsBy [] s t
+  base_after = record {
+    initials = initials_after;
+    loaded = loaded_clauses_after;
+    added = [];
+    definitions = definitions_after ∙ sym (append-nil s.definitions);
+    base =
+        ap (λ cs. cs ++ t.definitions) loaded_clauses_after
+        ∙ (ap (λ ds. loaded_clauses s ++ ds) definitions_after ∙ sym (append-nil (base_clauses s)));
+    stand = tt;
+  }
 
   marked_base_after : base_of t ≡ base_of s
   marked_base_after =
@@ -152,11 +169,20 @@ module _ (s t : State) (id : ℕ) (entry : Entry) (drafts : List Draft) (m : Rew
       subst (λ b. RankedOver (defined_by t) b (live_of t)) (sym marked_base_after)
       (subst (λ (ds : List Clause). RankedOver (defined_in (map (λ c. predicate_of c.head) ds)) (base_of s) (live_of t)) (sym definitions_after) r)
 
-  pub state_after : IsKeptState s → RankedOver (defined_by s) (base_of s) (live_of t) → ((e : Entry) → Among e m.entries → IsHeld e.clause × IsCanonical e.clause) → IsKeptState t
+  known_after : known_of t ≡ known_of s
+  known_after = ap (λ ps. ps ++ defined_of t) initials_after ∙ ap (λ (ds : List Clause). s.initials ++ map (λ c. predicate_of c.head) ds) definitions_after
+
+  pub state_after : IsKeptState s → RankedOver (defined_by s) (base_of s) (live_of t)
+      → ((e : Entry) → Among e m.entries → IsHeld e.clause × IsCanonical e.clause × IsKnown (known_of s) e.clause) → IsKeptState t
   state_after k r new = record {
     ranked = ranked_after r;
     held = all_after IsHeld k.held (λ e a. (new e a).0);
     canonical = all_after IsCanonical k.canonical (λ e a. (new e a).1);
+    known = subst (λ ps. All (IsKnown ps) (live_clauses t)) (sym known_after) (all_after (IsKnown (known_of s)) k.known (λ e a. (new e a).2));
+    loaded_held = subst (All IsHeld) (sym loaded_clauses_after) k.loaded_held;
+    loaded_known = subst (λ ps. All (IsKnown ps) (loaded_clauses t)) (sym initials_after) (subst (All (IsKnown s.initials)) (sym loaded_clauses_after) k.loaded_known);
+    definitions = subst (λ ps. All (IsKeptDefinition ps) t.definitions) (sym initials_after) (subst (All (IsKeptDefinition s.initials)) (sym definitions_after) k.definitions);
+    one_each = subst (λ ds. (m n : Clause) → Contains ds m → Contains ds n → predicate_of m.head ≡ predicate_of n.head → m ≡ n) (sym definitions_after) k.one_each;
   }
 
 -- ---- what a live entry's clause is
@@ -166,6 +192,9 @@ module _ (s : State) (k : IsKeptState s) where
 
   pub entry_canonical : (e : Entry) → Among e (live_entries s) → IsCanonical e.clause
   entry_canonical e a = all_each IsCanonical (live_clauses s) k.canonical e.clause (among_mapped (λ (x : Entry). x.clause) a)
+
+  pub entry_known : (e : Entry) → Among e (live_entries s) → Speaks (known_of s) e.clause
+  entry_known e a = known_speaks (known_of s) e.clause (all_each (IsKnown (known_of s)) (live_clauses s) k.known e.clause (among_mapped (λ (x : Entry). x.clause) a))
 
   pub marked_held : (x : Marked) → Contains (live_of s) x → IsHeld x.clause
   marked_held x l =

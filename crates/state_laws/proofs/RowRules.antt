@@ -26,10 +26,12 @@ use Rattle.rule_laws.specs.Steps.{IsHeld}
 use Rattle.rule_laws.proofs.RowRules.{added_row, dropped_row, projected_clause, equated_by_row}
 use Rattle.map_model.specs.declared.refusal.Refusal.{Refusal}
 use Rattle.map_model.specs.declared.refusal.Refusal.TheVariants.{LooseVariable, NotNumber, NoRow, StillUsed}
-use Rattle.map_model.specs.Merging.{in_range}
-use Rattle.map_model.specs.Replacing.{is_number, loose, not_number, or_next, variables_broken, row_of, no_row, still_used, elimination_broken, project_broken, same_variable, equate_broken}
+use Rattle.fold_model.specs.Positions.{in_range}
+use Rattle.map_model.specs.Replacing.{is_number, loose, not_number, variables_broken, row_of, no_row, still_used, elimination_broken, project_broken, same_variable, equate_broken}
+use Rattle.map_model.specs.Rewriting.{or_next}
 use Rattle.state_laws.proofs.Variables.{has_among, among_has, renamed_from, among_remove, among_mapped_all}
 use Rattle.state_laws.proofs.Sound.{Placed, TreeFits, RowFits, Fits, held_of, held_fits}
+use Rattle.state_laws.proofs.Known.{equated_speaks}
 use Rattle.state_laws.proofs.Unfolded.{place_of}
 use Rattle.state_laws.proofs.Replaced.{MayReplace}
 
@@ -105,6 +107,7 @@ module _ (c : Clause) (held : IsHeld c) (canonical : IsCanonical c) where
     same = added_row c row shown;
     held = with_rows (c.rows ++ row ∷ []) (each RowFits' fits.rows (record { placed = λ n a. (each_right c row.pairs right n a).0; num = λ n a. (each_right c row.pairs right n a).1 }));
     rising = each_all (λ r. IsRising r.pairs) (c.rows ++ row ∷ []) (each (λ r. IsRising r.pairs) risen rising);
+    speaks = λ known h. h;
   }
     where
       RowFits' : Row → Type 0
@@ -121,6 +124,7 @@ module _ (c : Clause) (held : IsHeld c) (canonical : IsCanonical c) where
         same = dropped_row c (i - 1) _ p.1 shown;
         held = with_rows (remove c.rows (i - 1)) (λ r a. fits.rows r (among_remove c.rows (i - 1) r a));
         rising = each_all (λ r. IsRising r.pairs) (remove c.rows (i - 1)) (λ r a. risen r (among_remove c.rows (i - 1) r a));
+        speaks = λ known h. h;
       }
 
   -- ---- project
@@ -149,6 +153,7 @@ module _ (c : Clause) (held : IsHeld c) (canonical : IsCanonical c) where
       same = projected_clause c v held.equations unused;
       held = with_rows (elimination v c.rows) row_fits;
       rising = each_all (λ r. IsRising r.pairs) (elimination v c.rows) rises;
+      speaks = λ known h. h;
     }
 
   -- ---- equate
@@ -204,4 +209,5 @@ module _ (c : Clause) (held : IsHeld c) (canonical : IsCanonical c) where
         rows = λ r a. mapped_out (renamed f) c.rows (RowFits (equated c v u)) row_became r a;
       });
       rising = each_all (λ r. IsRising r.pairs) (map (renamed f) c.rows) (λ r a. mapped_out (renamed f) c.rows (λ x. IsRising x.pairs) (λ x m. rising_renamed f x) r a);
+      speaks = λ known h. equated_speaks known c v u h;
     }

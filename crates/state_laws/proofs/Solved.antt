@@ -23,7 +23,7 @@ use Rattle.clause_model.specs.Solved.{typed_variable, typed, typed_equations, nu
 use Rattle.clause_laws.proofs.Rows.{all_each}
 use Rattle.clause_laws.proofs.Solving.{clause_of}
 use Rattle.rule_laws.specs.Steps.{IsHeld}
-use Rattle.state_laws.specs.WellFormed.{side_variables, IsWellFormed}
+use Rattle.map_model.specs.WellFormed.{side_variables, IsWellFormed}
 use Rattle.state_laws.proofs.Variables.{renamed_from}
 use Rattle.state_laws.proofs.Sound.{Placed, TreeFits, RowFits, Fits, held_of, fits_of}
 

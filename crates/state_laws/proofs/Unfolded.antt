@@ -9,17 +9,19 @@ use Rattle.clp_rank.proofs.Unfolding.{unfolding_keeps}
 use Rattle.clause_model.specs.Canonical.{new_clause, canonical_form, IsCanonical}
 use Rattle.unfold_model.specs.Resolvent.{resolvent}
 use Rattle.rule_laws.specs.Steps.{IsHeld, resolved, IsUnfolding}
+use Rattle.rule_laws.specs.Dropping.{IsKnown}
 use Rattle.rule_laws.proofs.Unfolding.{unfolds}
 use Rattle.map_model.specs.State.{Entry, State, live_entries}
 use Rattle.map_model.specs.Rewriting.{Draft}
-use Rattle.map_model.specs.Merging.{in_range}
+use Rattle.fold_model.specs.Positions.{in_range}
 use Rattle.map_model.specs.Unfolding.{resolvents}
-use Rattle.state_laws.specs.KeptState.{marked, live_of, base_of, defined_by, IsKeptState}
+use Rattle.state_laws.specs.KeptState.{marked, live_of, base_of, defined_by, known_of, IsKeptState}
 use Rattle.state_laws.proofs.Variables.{among_map}
 use Rattle.state_laws.proofs.Held.{new_is_held, resolvent_is_held}
+use Rattle.state_laws.proofs.Known.{resolvent_speaks, new_is_known}
 use Rattle.state_laws.proofs.Live.{goes_from}
 use Rattle.state_laws.proofs.Made.{Makes, Resolves, resolves, has_draft, entry_for}
-use Rattle.state_laws.proofs.Rewritten.{Rewrites, is_marked, drafted_by, now_live, was, kept, old, state_after, entry_held, marked_held}
+use Rattle.state_laws.proofs.Rewritten.{Rewrites, is_marked, drafted_by, now_live, was, kept, old, state_after, entry_held, entry_known, marked_held}
 
 both : (a b : Bool) → (a && b) ≡ true → (a ≡ true) × (b ≡ true)
 both true b h = (refl, h)
@@ -50,6 +52,13 @@ module _ (s t : State) (id at : ℕ) (e : Entry) (rewrites : Rewrites s t id e (
     drafted_held d x r q =
         let h = resolvent_is_held e.clause r.by.clause i place e_held (entry_held s k r.by r.is_live) d.clause r.is in
         new_is_held d.clause x.clause h.0 h.1 q
+
+    drafted_known : (d : Draft) (x : Entry) → Resolves id e.clause i s.entries d → new_clause d.clause ≡ Ok x.clause → IsKnown (known_of s) x.clause
+    drafted_known d x r q =
+        let of_e = entry_known s k e (goes_from e s.entries (id - 1) rewrites.here rewrites.is_live) in
+        let of_by = entry_known s k r.by r.is_live in
+        let speaks = resolvent_speaks (known_of s) e.clause r.by.clause i e_held (entry_held s k r.by r.is_live) of_e of_by d.clause r.is in
+        new_is_known (known_of s) d.clause x.clause (drafted_held d x r q).0 speaks
 
     new_resolved : (d : Draft) (x : Entry) (n : ℕ) → Resolves id e.clause i s.entries d → Makes n d x → marked x ≡ resolved d.clause
     new_resolved d x n r m = is_marked x (canonical_form d.clause) true (drafted_held d x r m.clause).0 (m.mark ∙ r.mark)
@@ -82,4 +91,7 @@ module _ (s t : State) (id at : ℕ) (e : Entry) (rewrites : Rewrites s t id e (
     pub unfold_keeps_state : IsKeptState t
     unfold_keeps_state = state_after s t id e drafts rewrites k
         (unfolding_keeps (setting (defined_by s)) (Contains (base_of s)) (Contains (live_of s)) (Contains (live_of t)) (marked e) (unfolds (defined_by s) (live_of s) (live_of t) (marked e) i is_unfolding) k.ranked)
-        (λ x a. let d = drafted_by s t id e drafts rewrites x a in let h = drafted_held d.0 x (resolves id e.clause i 1 s.entries d.0 d.1) d.2.clause in (h.1, h.2))
+        (λ x a. let d = drafted_by s t id e drafts rewrites x a in
+        let y = resolves id e.clause i 1 s.entries d.0 d.1 in
+        let h = drafted_held d.0 x y d.2.clause in
+        (h.1, h.2, drafted_known d.0 x y d.2.clause))

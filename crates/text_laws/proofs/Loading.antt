@@ -83,7 +83,7 @@ unmapped : {A B : Type 0} (f : A → B) (xs : List A) (y : B) → Among y (map f
 unmapped f [] y a = elim a [ ]
 unmapped f (x ∷ xs) y a = among_cases a (λ e. (x, first, sym e)) (λ b. let k = unmapped f xs y b in (k.0, next k.1, k.2))
 
-source_nums : (c : Clause) → RowsAreNum c → RowsAreNum (source_of c)
+pub source_nums : (c : Clause) → RowsAreNum c → RowsAreNum (source_of c)
 unfolding source_of
 source_nums c nums = each_all (λ n. sort_in sorts n ≡ Num) (rows_variables (map (written place) c.rows)) (λ n a.
     let row = of_some_row (map (written place) c.rows) n a in

@@ -2,6 +2,7 @@
 use Rattle.std.proofs.Common.{◌≡◌, ℕ, ◌<◌, ◌≤◌, ◌^◌, List, [], ◌∷◌, ◌++◌, length, map, Bool, true, false, not, arith, refl, sym, ◌∙◌, ap, subst, inl, inr}
 use Rattle.std.specs.Prelude.{if◌then◌else◌, ◌||◌, nat_eq, nat_le, nat_lt, Option, Some, None, All}
 use Rattle.std.specs.List.{list_any}
+use Rattle.std.specs.Str.{is_utf8}
 use Rattle.std.proofs.lemmas.Bool.{ltb-false, cases_lt}
 use Rattle.std.proofs.lemmas.Bool.Decides.{nat_tests}
 use Rattle.std.proofs.lemmas.List.{length-map, append-nil, get_or_past}
@@ -13,25 +14,35 @@ use Rattle.clp_model.specs.declared.sort.Sort.{Sort}
 use Rattle.clp_model.specs.declared.sort.Sort.TheVariants.{Any}
 use Rattle.clp_model.specs.declared.tree.Tree.{Tree, Var, App', Row_of-Tree, end_of-Tree, more_of-Tree}
 use Rattle.clp_model.specs.Trees.{variables, variables_in}
-use Rattle.clp_model.specs.Clauses.{Clause, sort_in}
+use Rattle.clp_model.specs.Clauses.{Clause, Row, sort_in}
 use Rattle.clp_model.specs.Canonical.{clause_size, clause_depth}
 use Rattle.clp_model.proofs.Membership.{Among, among_front, among_back, among_either, distinct_has}
-use Rattle.linear_model.specs.Normal.{is_within}
+use Rattle.linear_model.specs.Normal.{IsNormal, is_within}
 use Rattle.linear_laws.proofs.Lists.{filter_out}
 use Rattle.clause_model.specs.Variables.{rows_variables, nums_from, loose_nums, variables_as_printed, variables_by_first_occurrence}
 use Rattle.clause_model.specs.Canonical.{limit_past, IsCanonical}
+use Rattle.clause_model.specs.Solved.{RowsAreNum}
 use Rattle.clause_laws.proofs.Rows.{each_all}
 use Rattle.clause_laws.proofs.Distinct.{distinct_from}
 use Rattle.clause_laws.proofs.Upto.{number_equality, upto, upto_within}
 use Rattle.clause_laws.proofs.NewClause.{each_within}
 use Rattle.clause_laws.proofs.Source.{row_is_normal, by_first, sorts_read}
-use Rattle.name_laws.specs.Names.{HasNames, RowHasNames, IsAtomOver}
+use Rattle.name_laws.specs.Names.{HasNames, RowHasNames, IsAtomOver, AreOver}
 use Rattle.standing_model.specs.Names.{is_short, is_ordinary}
 use Rattle.standing_model.specs.Parsable.{HasShortNames, HaveShortNames, IsParsable}
 use Rattle.evaluation_laws.specs.Laws.{IsOrdinary}
 use Rattle.evaluation_laws.proofs.Numbers.{length_numbers}
 use Rattle.evaluation_laws.proofs.Clauses.{unlisted}
 use Rattle.text_laws.specs.Laws.{IsPrintable}
+
+-- What makes a clause's text be read as its source: a clause that can be printed is such a one, and so is its source.
+pub record IsWritable (c : Clause) : Type 0 where
+  pub rows : (r : Row) → Among r c.rows → IsNormal r × (is_within r ≡ true)
+  pub deep : clause_depth c ≤ 256
+  pub small : (n : ℕ) → Among n (variables_as_printed c) → n < 2 ^ 64
+  pub over : AreOver is_short is_ordinary c
+  pub texts : AreOver is_utf8 is_ordinary c
+  pub nums : RowsAreNum c
 
 -- ---- names
 
@@ -62,7 +73,7 @@ all_ordinary (t ∷ ts) h =
     let own = All-head (IsAtomOver is_short is_ordinary) t ts h in
     All-cons IsOrdinary t ts (own.application, own.predicate) (all_ordinary ts (All-tail (IsAtomOver is_short is_ordinary) t ts h))
 
-pub ordinary : (c : Clause) → IsPrintable c → All IsOrdinary (c.head ∷ c.body)
+pub ordinary : (c : Clause) → IsWritable c → All IsOrdinary (c.head ∷ c.body)
 ordinary c h = all_ordinary (c.head ∷ c.body) (All-cons (IsAtomOver is_short is_ordinary) c.head c.body h.over.head h.over.body)
 
 -- ---- limits
@@ -94,11 +105,11 @@ within_length xs k is n a = omega (arith, upto_within k n (subst (Among n) is a)
 as_long : (sorts : List Sort) (f : ℕ → Sort) (xs : List ℕ) (k : ℕ) → map f (upto k) ≡ sorts → xs ≡ upto k → length xs ≡ length sorts
 as_long sorts f xs k read is = ap length is ∙ sym (length-map (upto k) f) ∙ ap length read
 
-listed_within : (sorts : List Sort) (n : ℕ) → Among n (nums_from 1 sorts) → n ≤ length sorts
+pub listed_within : (sorts : List Sort) (n : ℕ) → Among n (nums_from 1 sorts) → (0 < n) × (n ≤ length sorts)
 listed_within sorts n a =
     let r = unlisted 1 sorts n a in
     elim (cases_lt r.0 (length sorts)) [
-      | inl less ↦ omega (arith, r.1)
+      | inl less ↦ (omega (arith, r.1), omega (arith, r.1))
       | inr past ↦ absurd (let e = get_or_past sorts r.0 Any past in let f = r.2 in cc)
     ]
 
@@ -106,41 +117,53 @@ module _ (c : Clause) (h : IsCanonical c) where
   abbrev first_met : List ℕ
   first_met = variables_by_first_occurrence c
 
-  variable_within : (n : ℕ) → Among n (variables_in (c.head ∷ c.body) ++ rows_variables c.rows) → n ≤ length c.sorts
-  variable_within n a =
+  first_listed : (n : ℕ) → Among n (variables_in (c.head ∷ c.body) ++ rows_variables c.rows) → (0 < n) × (n ≤ length c.sorts)
+  first_listed n a =
       let long : length first_met ≡ length c.sorts = as_long c.sorts (sort_in c.sorts) first_met _ (sorts_read c h) (by_first c h) in
-      let l = within_length first_met _ (by_first c h) n (distinct_has [] (variables_in (c.head ∷ c.body) ++ rows_variables c.rows) n a) in
-      omega arith
+      let met = distinct_has [] (variables_in (c.head ∷ c.body) ++ rows_variables c.rows) n a in
+      let l = within_length first_met _ (by_first c h) n met in
+      ((upto_within _ n (subst (Among n) (by_first c h) met)).0, omega arith)
 
-  pub variable_small : (n : ℕ) → Among n (variables_as_printed c) → n < 2 ^ 64
-  variable_small n a =
-      let few = (limits c h.limits).variables in
+  -- a variable that is printed has its place among the sorts
+  pub printed_listed : (n : ℕ) → Among n (variables_as_printed c) → (0 < n) × (n ≤ length c.sorts)
+  printed_listed n a =
       let tree = variables_in (c.head ∷ c.body) in
       let rows = rows_variables c.rows in
       let front = variables_in (c.head ∷ []) ++ rows in
-      let l : n ≤ length c.sorts = elim (distinct_from nat_eq number_equality [] (front ++ loose_nums c ++ variables_in c.body) n a) [
+      elim (distinct_from nat_eq number_equality [] (front ++ loose_nums c ++ variables_in c.body) n a) [
         | inl none ↦ elim none [ ]
         | inr b ↦ elim (among_either n (front ++ loose_nums c) (variables_in c.body) b) [
           | inl f ↦ elim (among_either n front (loose_nums c) f) [
             | inl g ↦ elim (among_either n (variables_in (c.head ∷ [])) rows g) [
-              | inl head ↦ variable_within n (among_front n tree rows (subst (λ ns. Among n (ns ++ variables_in c.body)) (append-nil (variables c.head)) (among_front n (variables c.head ++ []) (variables_in c.body) head)))
-              | inr row ↦ variable_within n (among_back n tree rows row)
+              | inl head ↦ first_listed n (among_front n tree rows (subst (λ ns. Among n (ns ++ variables_in c.body)) (append-nil (variables c.head)) (among_front n (variables c.head ++ []) (variables_in c.body) head)))
+              | inr row ↦ first_listed n (among_back n tree rows row)
             ]
             | inr loose ↦ listed_within c.sorts n (filter_out (λ m. not (list_any (λ k. nat_eq k m) rows)) (nums_from 1 c.sorts) n loose).0
           ]
-          | inr body ↦ variable_within n (among_front n tree rows (among_back n (variables c.head) (variables_in c.body) body))
+          | inr body ↦ first_listed n (among_front n tree rows (among_back n (variables c.head) (variables_in c.body) body))
         ]
-      ] in
-      omega arith
+      ]
 
-pub parsable : (c : Clause) → IsPrintable c → IsParsable c
-unfolding clause_depth
-parsable c h =
+  pub sorts_few : length c.sorts ≤ 256
+  sorts_few = (limits c h.limits).variables
+
+pub writable : (c : Clause) → IsPrintable c → IsWritable c
+writable c h =
     let canonical = h.canonical in
-    let within = limits c canonical.limits in
     record {
-      names = All-cons HasShortNames c.head c.body (short_names c.head h.over.head.names) (all_short c.body h.over.body);
-      deep = within.deep;
-      range = each_all (λ r. is_within r ≡ true) c.rows (λ r a. subst (λ x. is_within x ≡ true) (row_is_normal c canonical r a).stays (each_within c.rows canonical.range r a));
-      variables = each_all (λ n. n < 2 ^ 64) (variables_as_printed c) (variable_small c canonical);
+      rows = λ r a. let is = row_is_normal c canonical r a in (is, subst (λ x. is_within x ≡ true) is.stays (each_within c.rows canonical.range r a));
+      deep = (limits c canonical.limits).deep;
+      small = λ n a. let l = (printed_listed c canonical n a).1 in let few = sorts_few c canonical in omega arith;
+      over = h.over;
+      texts = h.texts;
+      nums = h.nums;
     }
+
+pub parsable : (c : Clause) → IsWritable c → IsParsable c
+unfolding clause_depth
+parsable c h = record {
+  names = All-cons HasShortNames c.head c.body (short_names c.head h.over.head.names) (all_short c.body h.over.body);
+  deep = h.deep;
+  range = each_all (λ r. is_within r ≡ true) c.rows (λ r a. (h.rows r a).1);
+  variables = each_all (λ n. n < 2 ^ 64) (variables_as_printed c) h.small;
+}

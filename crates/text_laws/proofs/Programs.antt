@@ -24,12 +24,12 @@ use Rattle.print_model.specs.Joined.{joined}
 use Rattle.print_model.specs.Terms.{atom_text}
 use Rattle.print_model.specs.Clauses as text
 use Rattle.print_model.specs.Clauses.{clause_text, program_text, end_text}
-use Rattle.parsing_laws.specs.Behind.{behind}
+use Rattle.parsing_laws.specs.Behind.{behind, IsEndBefore}
 use Rattle.parsing_laws.proofs.Terms.{begins_term}
 use Rattle.parsing_laws.proofs.Clauses.{draft_is, clause_begins, clause_text_is, clause_stays}
-use Rattle.evaluation_laws.proofs.Clauses.{clause_meant}
+use Rattle.evaluation_laws.proofs.Clauses.{rows_meant}
 use Rattle.text_laws.specs.Laws.{IsPrintable, PrintedProgramsAreReadAgain}
-use Rattle.text_laws.proofs.Printable.{parsable, ordinary}
+use Rattle.text_laws.proofs.Printable.{IsWritable, writable, parsable, ordinary}
 use Rattle.text_laws.proofs.Texts.{program_is_text}
 
 -- ---- one clause
@@ -43,23 +43,34 @@ by_begins again found r l.Variable h = refl
 by_begins again found r l.OpenSquare h = refl
 by_begins again found r _ h = absurd (cc)
 
+-- what the text of a clause is read as, and the source that it stands for
+pub record IsReadBack (c : Clause) (r : Remaining) (rest : List ℕ) : Type 0 where
+  pub source : SourceClause
+  pub is : clause r ≡ Ok (source, behind rest false)
+  pub means : meaning_of source ≡ source_of c
+
+-- the text of a clause, where what follows makes its `.` its end
+pub clause_read : (c : Clause) (r : Remaining) (z : List ℕ) → IsWritable c → IsEndBefore z
+    → ahead r ≡ atom_text c.head ++ (joined (codes " :- ") (codes ", ") (text.goals c) ++ 46 ∷ z) → IsReadBack c r z
+unfolding clause_with
+clause_read c r z h ends front =
+    let meant_is = rows_meant c (1 + length z) h.rows h.nums (ordinary c h) in
+    record {
+      source = meant_is.0;
+      is = ap meant (draft_is c r z (parsable c h) ends front) ∙ ap (λ v. with_value v (λ s. Ok (s, behind z false))) meant_is.1;
+      means = meant_is.2;
+    }
+
 -- the first clause of a printed text
-module _ (c : Clause) (h : IsPrintable c) (r : Remaining) (z : List ℕ) (front : ahead r ≡ skipped (clause_text c ++ z)) where
+module _ (c : Clause) (h : IsWritable c) (r : Remaining) (z : List ℕ) (front : ahead r ≡ skipped (clause_text c ++ z)) where
   parts : ahead r ≡ atom_text c.head ++ (joined (codes " :- ") (codes ", ") (text.goals c) ++ 46 ∷ 10 ∷ z)
   parts = front ∙ clause_stays c z (parsable c h) ∙ clause_text_is c z
 
   starts : begins_term (lexeme r) ≡ true
   starts = clause_begins c r (10 ∷ z) (parsable c h) (λ a. refl) parts
 
-  abbrev source : SourceClause
-  source = (clause_meant c (1 + length (10 ∷ z)) h.canonical h.nums (ordinary c h)).0
-
-  clause_is : clause r ≡ Ok (source, behind (10 ∷ z) false)
-  unfolding clause_with
-  clause_is =
-      let meant_is = clause_meant c (1 + length (10 ∷ z)) h.canonical h.nums (ordinary c h) in
-      ap meant (draft_is c r (10 ∷ z) (parsable c h) (λ a. refl) parts)
-      ∙ ap (λ v. with_value v (λ s. Ok (s, behind (10 ∷ z) false))) meant_is.1
+  abbrev back : IsReadBack c r (10 ∷ z)
+  back = clause_read c r (10 ∷ z) h (λ a. refl) parts
 
 -- ---- programs
 
@@ -78,18 +89,18 @@ clauses_read [] zero found r h few turns front = ([], ap Ok (sym (append-nil fou
 clauses_read [] (suc n) found r h few turns front = ([], ap (clauses_by (clauses_from n) found r) (finished r front) ∙ ap Ok (sym (append-nil found)), refl)
 clauses_read (c ∷ cs) zero found r h few turns front = absurd (omega arith)
 clauses_read (c ∷ cs) (suc n) found r h few turns front =
-    let own = All-head IsPrintable c cs h in
+    let own = writable c (All-head IsPrintable c cs h) in
     let z = program_text cs in
-    let s = source c own r z front in
+    let s = (back c own r z front).source in
     let room : nat_lt (length found) max_clauses ≡ true = below (length found) (omega arith) in
     let others = clauses_read cs n (found ++ s ∷ []) (behind (10 ∷ z) false) (All-tail IsPrintable c cs h) (omega (arith, length-append found (s ∷ []))) (omega arith) refl in (
       s ∷ others.0,
       by_begins (clauses_from n) found r (lexeme r) (starts c own r z front)
           ∙ ap (λ b. with_value (if b then clause r else Err (past_limit r)) (λ p. clauses_from n (found ++ p.0 ∷ []) p.1)) room
-          ∙ ap (λ v. with_value v (λ p. clauses_from n (found ++ p.0 ∷ []) p.1)) (clause_is c own r z front)
+          ∙ ap (λ v. with_value v (λ p. clauses_from n (found ++ p.0 ∷ []) p.1)) (back c own r z front).is
           ∙ others.1
           ∙ ap Ok (append_assoc found (s ∷ []) others.0),
-      ap (λ d. d ∷ map meaning_of others.0) (clause_meant c (1 + length (10 ∷ z)) own.canonical own.nums (ordinary c own)).2 ∙ ap (λ ds. source_of c ∷ ds) others.2,
+      ap (λ d. d ∷ map meaning_of others.0) (back c own r z front).means ∙ ap (λ ds. source_of c ∷ ds) others.2,
     )
 
 -- there are as many turns as bytes, and each clause has some
@@ -107,10 +118,10 @@ turns_enough : (cs : List Clause) → All IsPrintable cs → length cs ≤ lengt
 unfolding program_text
 turns_enough [] h = omega arith
 turns_enough (c ∷ cs) h =
-    let e : skipped (program_text (c ∷ cs)) ≡ program_text (c ∷ cs) = clause_stays c (program_text cs) (parsable c (All-head IsPrintable c cs h)) in
+    let e : skipped (program_text (c ∷ cs)) ≡ program_text (c ∷ cs) = clause_stays c (program_text cs) (parsable c (writable c (All-head IsPrintable c cs h))) in
     subst (λ k. length (c ∷ cs) ≤ k) (ap length (sym e)) (clauses_short (c ∷ cs))
 
-text_is_utf8 : (z : List ℕ) → IsUtf8 z → not_utf8 z ≡ None
+pub text_is_utf8 : (z : List ℕ) → IsUtf8 z → not_utf8 z ≡ None
 unfolding not_utf8
 text_is_utf8 z u =
     let same = utf8_valid_len-IsUtf8 z u in

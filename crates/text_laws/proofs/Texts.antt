@@ -21,8 +21,6 @@ use Rattle.linear_model.specs.Normal.{limit, pairs_within, is_within}
 use Rattle.unify_laws.proofs.Solved.{among_cases}
 use Rattle.clause_model.specs.Variables.{row_variables, rows_variables, loose_nums}
 use Rattle.clause_laws.proofs.Rows.{all_each, among_rows}
-use Rattle.clause_laws.proofs.NewClause.{each_within}
-use Rattle.clause_laws.proofs.Source.{row_is_normal}
 use Rattle.name_laws.specs.Names.{HasNames, RowHasNames, IsAtomOver}
 use Rattle.print_model.specs.Names.{is_plain, all_escaped, quoted, predicate_text, is_nil, is_dot}
 use Rattle.print_model.specs.Joined.{joined}
@@ -34,11 +32,11 @@ use Rattle.parsing_laws.proofs.Factors.{sign_text}
 use Rattle.parsing_laws.proofs.Sums.{signed_decimal_is}
 use Rattle.standing_model.specs.Names.{is_ordinary}
 use Rattle.text_laws.specs.Laws.{IsPrintable, PrintedProgramsAreTexts}
-use Rattle.text_laws.proofs.Printable.{variable_small}
+use Rattle.text_laws.proofs.Printable.{IsWritable, writable}
 
 -- ---- ASCII
 
-abbrev are_low : List ℕ → Bool
+abbrev pub are_low : List ℕ → Bool
 are_low [] = true
 are_low (b ∷ bs) = nat_lt b 128 && are_low bs
 
@@ -49,10 +47,10 @@ all_low : (bs : List ℕ) → are_low bs ≡ true → All (λ b. b < 128) bs
 all_low [] h = All-nil (λ b. b < 128)
 all_low (b ∷ bs) h = let both = and_parts (nat_lt b 128) (are_low bs) h in All-cons (λ b. b < 128) b bs (low_byte b both.0) (all_low bs both.1)
 
-ascii : (bs : List ℕ) → are_low bs ≡ true → IsUtf8 bs
+pub ascii : (bs : List ℕ) → are_low bs ≡ true → IsUtf8 bs
 ascii bs h = IsUtf8-from_ascii bs (IsAscii-from_all bs (all_low bs h))
 
-number : (n : ℕ) → n < 2 ^ 64 → IsUtf8 (decimal n)
+pub number : (n : ℕ) → n < 2 ^ 64 → IsUtf8 (decimal n)
 number n h = IsUtf8-from_ascii (decimal n) (IsAscii-decimal n h)
 
 variable : (n : ℕ) → n < 2 ^ 64 → IsUtf8 (variable_text n)
@@ -93,7 +91,7 @@ escaped_text (b ∷ z) front u = by (b == 92) refl (b == 39) refl (b == 10) refl
     by false e false f false g false h rest =
         subst IsUtf8 (append_assoc front (b ∷ []) (all_escaped z)) (rest (front ++ b ∷ []) (subst IsUtf8 (sym (append_assoc front (b ∷ []) z)) u))
 
-predicate : (name : List ℕ) → is_utf8 name ≡ true → IsUtf8 (predicate_text name)
+pub predicate : (name : List ℕ) → is_utf8 name ≡ true → IsUtf8 (predicate_text name)
 unfolding predicate_text
 predicate name h = by (is_plain name)
   where
@@ -105,11 +103,11 @@ predicate name h = by (is_plain name)
 
 -- ---- texts one after another
 
-abbrev AllTexts : List (List ℕ) → Type 0
+abbrev pub AllTexts : List (List ℕ) → Type 0
 AllTexts [] = Unit {0}
 AllTexts (x ∷ xs) = IsUtf8 x × AllTexts xs
 
-join : (begin mark : List ℕ) (xs : List (List ℕ)) → IsUtf8 begin → IsUtf8 mark → AllTexts xs → IsUtf8 (joined begin mark xs)
+pub join : (begin mark : List ℕ) (xs : List (List ℕ)) → IsUtf8 begin → IsUtf8 mark → AllTexts xs → IsUtf8 (joined begin mark xs)
 join begin mark [] f m h = IsUtf8-nil
 join begin mark (x ∷ xs) f m h = IsUtf8-append begin (x ++ joined mark mark xs) f (IsUtf8-append x (joined mark mark xs) h.0 (join mark mark xs m m h.1))
 
@@ -173,7 +171,7 @@ application_texts name (x ∷ y ∷ []) h k = by (is_dot name)
 application_texts name (x ∷ y ∷ z ∷ xs) h k = simple_texts name (x ∷ y ∷ z ∷ xs) h k
 
 -- variables are numbers of 64 bits
-abbrev AreSmall : List ℕ → Type 0
+abbrev pub AreSmall : List ℕ → Type 0
 AreSmall ns = (n : ℕ) → Among n ns → n < 2 ^ 64
 
 mutual
@@ -217,7 +215,7 @@ joint_is_text z = by (is_negative z)
     by true = ascii (codes " - ") refl
     by false = ascii (codes " + ") refl
 
-sign_is_text : (b : Bool) → IsUtf8 (if b then codes "-" else [])
+pub sign_is_text : (b : Bool) → IsUtf8 (if b then codes "-" else [])
 sign_is_text true = ascii (codes "-") refl
 sign_is_text false = IsUtf8-nil
 
@@ -250,7 +248,7 @@ relation_is_text Eq = ascii (codes " = 0") refl
 relation_is_text Le = ascii (codes " =< 0") refl
 relation_is_text Lt = ascii (codes " < 0") refl
 
-row_is_text : (r : Row) → is_within r ≡ true → AreSmall (row_variables r) → IsUtf8 (row_text r)
+pub row_is_text : (r : Row) → is_within r ≡ true → AreSmall (row_variables r) → IsUtf8 (row_text r)
 unfolding row_text
 row_is_text r h small =
     let both = and_parts (pairs_within r.pairs) (nat_le (unsigned_abs r.constant) limit) h in
@@ -274,7 +272,7 @@ braces_texts (x ∷ xs) h = (
   tt,
 )
 
-module _ (c : Clause) (h : IsPrintable c) where
+module _ (c : Clause) (h : IsWritable c) where
   abbrev heads : List ℕ
   heads = variables_in (c.head ∷ [])
 
@@ -282,7 +280,7 @@ module _ (c : Clause) (h : IsPrintable c) where
   rows = rows_variables c.rows
 
   small : (n : ℕ) → Among n (heads ++ rows ++ loose_nums c ++ variables_in c.body) → n < 2 ^ 64
-  small n a = variable_small c h.canonical n (distinct_has [] (heads ++ rows ++ loose_nums c ++ variables_in c.body) n a)
+  small n a = h.small n (distinct_has [] (heads ++ rows ++ loose_nums c ++ variables_in c.body) n a)
 
   -- before the atoms
   small_front : (n : ℕ) → Among n (heads ++ rows ++ loose_nums c) → n < 2 ^ 64
@@ -293,7 +291,7 @@ module _ (c : Clause) (h : IsPrintable c) where
 
   rows_are_texts : AllTexts (map row_text c.rows)
   rows_are_texts = each_text row_text c.rows (λ r a.
-      row_is_text r (subst (λ x. is_within x ≡ true) (row_is_normal c h.canonical r a).stays (each_within c.rows h.canonical.range r a))
+      row_is_text r (h.rows r a).1
       (λ n b. small_front n (among_front n (heads ++ rows) (loose_nums c) (among_back n heads rows (among_rows r c.rows n a b)))))
 
   nums_are_texts : AllTexts (map num_text (loose_nums c))
@@ -304,17 +302,22 @@ module _ (c : Clause) (h : IsPrintable c) where
       atom_is_text t (all_each (IsAtomOver is_utf8 is_ordinary) c.body h.texts.body t a).names
       (λ n b. small n (among_back n (heads ++ rows ++ loose_nums c) (variables_in c.body) (among_tree t c.body n a b))))
 
-  clause_is_text : IsUtf8 (clause_text c)
-  unfolding clause_text
-  clause_is_text =
+  -- all but the end
+  pub unended_is_text : IsUtf8 (atom_text c.head ++ joined (codes " :- ") (codes ", ") (goals c))
+  unended_is_text =
       let all = both_texts (map row_text c.rows) (map num_text (loose_nums c)) rows_are_texts nums_are_texts in
       let gs = both_texts (braces (constraints c)) (map atom_text c.body) (braces_texts (constraints c) all) atoms_are_texts in
       let body = join (codes " :- ") (codes ", ") (goals c) (ascii (codes " :- ") refl) (ascii (codes ", ") refl) gs in
-      IsUtf8-append (atom_text c.head) (joined (codes " :- ") (codes ", ") (goals c) ++ end_text) head_is_text
-      (IsUtf8-append (joined (codes " :- ") (codes ", ") (goals c)) end_text body (ascii end_text refl))
+      IsUtf8-append (atom_text c.head) (joined (codes " :- ") (codes ", ") (goals c)) head_is_text body
+
+  clause_is_text : IsUtf8 (clause_text c)
+  unfolding clause_text
+  clause_is_text =
+      let body = joined (codes " :- ") (codes ", ") (goals c) in
+      subst IsUtf8 (append_assoc (atom_text c.head) body end_text) (IsUtf8-append (atom_text c.head ++ body) end_text unended_is_text (ascii end_text refl))
 
 pub program_is_text : PrintedProgramsAreTexts
 unfolding program_text
 program_is_text [] h = IsUtf8-nil
 program_is_text (c ∷ cs) h =
-    IsUtf8-append (clause_text c) (program_text cs) (clause_is_text c (All-head IsPrintable c cs h)) (program_is_text cs (All-tail IsPrintable c cs h))
+    IsUtf8-append (clause_text c) (program_text cs) (clause_is_text c (writable c (All-head IsPrintable c cs h))) (program_is_text cs (All-tail IsPrintable c cs h))

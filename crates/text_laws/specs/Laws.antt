@@ -1,5 +1,5 @@
 -- The laws of printed programs that are read and loaded again.
-use Rattle.std.specs.Prelude.{◌≡◌, ◌≤◌, List, map, length, All, IsUtf8, Some, Ok}
+use Rattle.std.specs.Prelude.{◌≡◌, ◌≤◌, ℕ, false, List, ◌∷◌, ◌++◌, map, length, codes, All, IsUtf8, Some, Ok}
 use Rattle.std.specs.Str.{is_utf8}
 use Rattle.clp_model.specs.Clauses.{Clause}
 use Rattle.clp_model.specs.Predicates.{initial_predicates}
@@ -11,8 +11,13 @@ use Rattle.clause_laws.specs.Laws.{AllNum}
 use Rattle.clause_store.specs.declared.source.SourceClause.{SourceClause}
 use Rattle.clause_store.specs.Source.{meaning_of}
 use Rattle.name_laws.specs.Names.{AreOver}
-use Rattle.clp_grammar.specs.Grammar.{program, max_clauses}
-use Rattle.print_model.specs.Clauses.{program_text}
+use Rattle.token_model.specs.White.{skipped}
+use Rattle.token_model.specs.Remaining.{Remaining, ahead}
+use Rattle.clp_grammar.specs.Grammar.{clause, program, max_clauses}
+use Rattle.print_model.specs.Joined.{joined}
+use Rattle.print_model.specs.Terms.{atom_text}
+use Rattle.print_model.specs.Clauses.{goals, program_text}
+use Rattle.parsing_laws.specs.Behind.{behind, IsEndBefore}
 use Rattle.standing_model.specs.Names.{is_short, is_ordinary}
 
 -- A canonical clause whose text is read as its source.
@@ -41,3 +46,20 @@ PrintedProgramsAreLoadedAgain =
     (cs : List Clause) → length cs ≤ max_clauses → All IsPrintable cs → sizes_of (map Some cs) ≤ 8388608
     → (source : List SourceClause) × (program (program_text cs) ≡ Ok source) × AllNum (map meaning_of source)
     × (load (map meaning_of source) ≡ Ok (record { clauses = map Some cs; predicates = initial_predicates cs }))
+
+-- ---- the sources of clauses
+
+-- the text of a clause without its end
+abbrev pub unended_text : Clause → List ℕ
+unended_text c = atom_text c.head ++ joined (codes " :- ") (codes ", ") (goals c)
+
+-- what is printed of the source of a clause is in UTF-8
+abbrev pub PrintedSourcesAreTexts : Type 0
+PrintedSourcesAreTexts = (c : Clause) → IsPrintable c → IsUtf8 (unended_text (source_of c))
+
+-- The text of the source and a `.` are read as just this source, where what follows makes the `.` an end: its variables are
+-- numbered as they are met.
+abbrev pub PrintedSourcesAreThemselves : Type 0
+PrintedSourcesAreThemselves =
+    (c : Clause) (r : Remaining) (text : List ℕ) → IsPrintable c → IsEndBefore text → ahead r ≡ skipped (unended_text (source_of c) ++ 46 ∷ text)
+    → (s : SourceClause) × (clause r ≡ Ok (s, behind text false)) × (meaning_of s ≡ source_of c)

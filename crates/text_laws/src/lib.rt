@@ -2,7 +2,7 @@
 //! no code here: each law is the contract of an empty function, and the lemmas in `proofs/` are there for the crates above.
 #![tactic(auto)]
 
-ghost use Rattle.text_laws.specs.Laws.{PrintedProgramsAreTexts, PrintedProgramsAreReadAgain, PrintedProgramsAreLoadedAgain};
+ghost use Rattle.text_laws.specs.Laws.{PrintedProgramsAreTexts, PrintedProgramsAreReadAgain, PrintedProgramsAreLoadedAgain, PrintedSourcesAreTexts, PrintedSourcesAreThemselves};
 
 /// What is printed of clauses that can be printed is in UTF-8.
 pub fn printed_programs_are_texts()
@@ -14,4 +14,11 @@ pub fn printed_programs_are_texts()
 pub fn printed_programs_are_loaded_again()
     ensures read { PrintedProgramsAreReadAgain }
     ensures loaded { PrintedProgramsAreLoadedAgain }
+{}
+
+/// What is printed of the source of a clause that can be printed is in UTF-8, and is read as just this source, with the
+/// numbers of its variables.
+pub fn printed_sources_are_themselves()
+    ensures texts { PrintedSourcesAreTexts }
+    ensures read { PrintedSourcesAreThemselves }
 {}
