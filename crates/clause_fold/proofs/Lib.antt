@@ -1,2 +1,17 @@
 pub mod Walks
 pub mod Elements
+pub mod Marked
+pub mod Arguments
+pub mod StoredParts
+pub mod Loose
+pub mod Named
+pub mod Substituted
+pub mod ChosenTerms
+pub mod MatchedAtoms
+pub mod Placed
+pub mod ImageRows
+pub mod ImageTerms
+pub mod CarriedTerms
+pub mod Parted
+pub mod Lost
+pub mod FoldedParts

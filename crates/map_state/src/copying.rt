@@ -1,14 +1,15 @@
 //! The clauses of a change, put into the state's store.
 
-ghost use Rattle.std.specs.Prelude.{◌≡◌, IfOk, true};
+ghost use Rattle.std.specs.Prelude.{◌≡◌, ◌≤◌, IfOk, true, length};
 ghost use Rattle.term_store.specs.Trees.{Keeps};
 ghost use Rattle.clause_store.specs.Stored.{IsStored};
 ghost use Rattle.map_state.specs.Seen.{entry_in};
 ghost use Rattle.map_state.specs.Changes.{AllMade, made_entry};
-ghost use Rattle.map_state.specs.Rows.{AreMade, kept_first};
+ghost use Rattle.map_state.specs.Rows.{AreMade, kept_first, nodes_of_made};
 
-use crate::change::{Definition, Made};
+use crate::change::{Change, Definition, Made, Ready};
 use crate::entry::Entry;
+use crate::totals::made_nodes;
 use clause_store::{Pred, copy_clause};
 use sqlite_items::Items;
 use std::alloc::Global;
@@ -38,7 +39,7 @@ fn copy_one(
 }
 
 /// The entries of all clauses that a step makes.
-pub(crate) fn copy_made(
+fn copy_made(
     alloc: Global,
     store: &mut Store,
     scratch: &Store,
@@ -58,7 +59,7 @@ pub(crate) fn copy_made(
 }
 
 /// The first new clause as the definition of the predicate, if one is defined.
-pub(crate) fn kept_first(
+fn kept_first(
     alloc: Global,
     defines: Option<Pred>,
     entries: &[Option<Entry>],
@@ -75,4 +76,33 @@ pub(crate) fn kept_first(
         pred,
         clause: entry.clause.copy(alloc)?,
     }))
+}
+
+/// What is reserved of a change, its clauses put into the store as the entries of the step of this number.
+pub(crate) fn made_ready(
+    alloc: Global,
+    store: &mut Store,
+    change: Change,
+    number: u32,
+) -> Result<Ready, NoMemory>
+    requires stored { AllMade change.scratch change.made }
+    requires few { length change.made ≤ 4096 }
+    ensures keeps { Keeps store.old store.new }
+    ensures made { IfOk result (λ ready. AreMade store.new number change.scratch change.made ready.entries.items) }
+    ensures kept { IfOk result (λ ready. ready.kept ≡ kept_first change.defines ready.entries.items) }
+    ensures nodes { IfOk result (λ ready. ready.nodes ≡ nodes_of_made change.scratch change.made) }
+    ensures dead { IfOk result (λ ready. ready.dead ≡ change.dead) }
+    ensures step { IfOk result (λ ready. ready.step ≡ change.step) }
+{
+    let made = change.made.as_slice();
+    let nodes = made_nodes(&change.scratch, made);
+    let entries = copy_made(alloc, store, &change.scratch, made, number)?;
+    let kept = kept_first(alloc, change.defines, entries.as_slice())?;
+    Ok(Ready {
+        dead: change.dead,
+        entries,
+        kept,
+        nodes,
+        step: change.step,
+    })
 }

@@ -11,7 +11,7 @@ ghost use Rattle.map_state.specs.Changes.{IsChange, changed, IsReady, ready_stat
 ghost use Rattle.map_state.specs.Rows.{kept_clauses, kept_preds};
 
 use crate::change::{Change, Definition, Ready};
-use crate::copying::{copy_made, kept_first};
+use crate::copying::made_ready;
 use crate::entry::{Entry, is_live, kill_all, load_all};
 use crate::totals::{made_nodes, present_count, total_size};
 use clause_store::{Clause, Limit, Pred, pred_is};
@@ -144,12 +144,14 @@ impl State {
     pub fn is_initial(&self, pred: &Pred) -> bool
         ensures { result ≡ is_among (state_of self.now).initials pred.now }
     {
-        for initial in self.initials.as_slice() {
-            if same_pred(initial, pred) {
-                return true;
-            }
-        }
-        false
+        is_among(self.initials.as_slice(), pred)
+    }
+
+    /// Whether a predicate has a kept definition.
+    pub fn is_defined(&self, pred: &Pred) -> bool
+        ensures { result ≡ is_among (defined_of (state_of self.now)) pred.now }
+    {
+        is_among(self.defined(), pred)
     }
 
     /// The number of steps.
@@ -217,20 +219,11 @@ impl State {
         ensures ready { IfOk result (λ ready. IsReady self.new ready) }
         ensures makes { IfOk result (λ ready. ready_state self.new ready ≡ changed (state_of self.old) change) }
     {
-        let made = change.made.as_slice();
         let number = self.history.len() as u32 + 1;
-        let nodes = made_nodes(&change.scratch, made);
-        let entries = copy_made(self.alloc, &mut self.store, &change.scratch, made, number)?;
-        let kept = kept_first(self.alloc, change.defines, entries.as_slice())?;
-        self.entries.reserve(entries.len())?;
+        let ready = made_ready(self.alloc, &mut self.store, change, number)?;
+        self.entries.reserve(ready.entries.len())?;
         make_room(&mut self.definitions, &mut self.defined, &mut self.history)?;
-        Ok(Ready {
-            dead: change.dead,
-            entries,
-            kept,
-            nodes,
-            step: change.step,
-        })
+        Ok(ready)
     }
 
     /// A reserved change takes effect.
@@ -300,7 +293,20 @@ fn keep(definitions: &mut Vec<Clause>, defined: &mut Vec<Pred>, kept: Option<Def
     }
 }
 
-fn same_pred(a: &Pred, b: &Pred) -> bool
+/// Whether a predicate is among these.
+fn is_among(preds: &[Pred], pred: &Pred) -> bool
+    ensures { result ≡ is_among preds.now pred.now }
+{
+    for other in preds {
+        if same_pred(other, pred) {
+            return true;
+        }
+    }
+    false
+}
+
+/// Whether two predicates are equal. Takes no memory.
+pub fn same_pred(a: &Pred, b: &Pred) -> bool
     ensures { result ≡ same_predicate a.now b.now }
 {
     a.name.as_str() == b.name.as_str() && a.arity == b.arity

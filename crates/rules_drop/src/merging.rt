@@ -7,8 +7,9 @@ ghost use Rattle.map_model.specs.Merging.{first_broken, atom_of, merge_after};
 ghost use Rattle.map_state.specs.Seen.{state_of};
 ghost use Rattle.map_state.specs.Changes.{placed};
 
+use clause_fold::in_range;
 use clause_store::{Clause, RawClause, copy_clause};
-use map_state::{Refusal, Replacement, State, Step, in_place, in_range};
+use map_state::{Refusal, Replacement, State, Step, in_place};
 use std::alloc::Global;
 use term_store::{NoMemory, Store};
 

@@ -11,8 +11,9 @@ use Rattle.clp_model.proofs.Membership.{Among}
 use Rattle.unify_laws.proofs.Solved.{among_cases}
 use Rattle.clause_store.specs.Stored.{IsNum}
 use Rattle.map_model.specs.declared.refusal.Refusal.{Refusal}
-use Rattle.map_model.specs.Merging.{in_range}
-use Rattle.map_model.specs.Replacing.{is_number, loose, not_number, or_next, variables_broken, still_used, elimination_broken, project_broken, equate_broken, same_variable}
+use Rattle.fold_model.specs.Positions.{in_range}
+use Rattle.map_model.specs.Replacing.{is_number, loose, not_number, variables_broken, still_used, elimination_broken, project_broken, equate_broken, same_variable}
+use Rattle.map_model.specs.Rewriting.{or_next}
 
 -- ---- one after another
 pub or_both : (a b c : Option Refusal) → or_next (or_next a b) c ≡ or_next a (or_next b c)

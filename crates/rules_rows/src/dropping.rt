@@ -10,8 +10,9 @@ ghost use Rattle.map_state.specs.Changes.{placed};
 ghost use Rattle.map_state.specs.Filled.{IsFilled};
 
 use crate::rebuilding::with_rows;
+use clause_fold::in_range;
 use clause_store::{Clause, Row, copy_rows};
-use map_state::{Refusal, Replacement, Shown, State, Step, in_place, in_range};
+use map_state::{Refusal, Replacement, Shown, State, Step, in_place};
 use row_showing::show_row;
 use sqlite_items::Items;
 use std::alloc::Global;

@@ -6,6 +6,7 @@ ghost use Rattle.clause_store.specs.Stored.{clause_in, raw_in, IsNum, IsRaw, IsS
 ghost use Rattle.replace_model.specs.Rows.{projected};
 ghost use Rattle.map_model.specs.declared.refusal.Refusal.TheVariants.{NoMemory};
 ghost use Rattle.map_model.specs.Replacing as spec;
+ghost use Rattle.map_model.specs.Rewriting.{or_next};
 ghost use Rattle.map_state.specs.Seen.{state_of};
 ghost use Rattle.map_state.specs.Changes.{placed};
 
@@ -60,7 +61,7 @@ fn projected(state: &State, id: u32, var: u32) -> Result<Replacement, Refusal>
 /// The first broken condition on the variable.
 fn variable_broken(store: &Store, c: &Clause, var: u32) -> Option<Refusal>
     requires { IsStored store.now c.now }
-    ensures { result ≡ spec.or_next (spec.or_next (spec.loose (clause_in store.now c.now) var) (spec.not_number (clause_in store.now c.now) var)) (spec.still_used (clause_in store.now c.now) var) }
+    ensures { result ≡ or_next (or_next (spec.loose (clause_in store.now c.now) var) (spec.not_number (clause_in store.now c.now) var)) (spec.still_used (clause_in store.now c.now) var) }
 {
     match no_number(store, c, var) {
         Some(refusal) => Some(refusal),

@@ -3,10 +3,12 @@
 ghost use Rattle.std.specs.Prelude.{◌≡◌};
 ghost use Rattle.clause_store.specs.Stored.{clause_in};
 ghost use Rattle.map_model.specs.Replacing as spec;
+ghost use Rattle.map_model.specs.Rewriting.{or_next};
 
+use clause_fold::in_range;
 use clause_store::{Clause, sort_in};
 use clp_model::Sort;
-use map_state::{Refusal, in_range};
+use map_state::Refusal;
 use term_store::Store;
 
 /// `LooseVariable` where the clause has no such variable.
@@ -32,7 +34,7 @@ pub(crate) fn not_number(_store: &Store, c: &Clause, var: u32) -> Option<Refusal
 
 /// The first of the two.
 pub(crate) fn no_number(store: &Store, c: &Clause, var: u32) -> Option<Refusal>
-    ensures { result ≡ spec.or_next (spec.loose (clause_in store.now c.now) var) (spec.not_number (clause_in store.now c.now) var) }
+    ensures { result ≡ or_next (spec.loose (clause_in store.now c.now) var) (spec.not_number (clause_in store.now c.now) var) }
 {
     match loose(store, c, var) {
         Some(refusal) => Some(refusal),

@@ -1,2 +1,4 @@
+mod Atoms
+mod Definitions
 mod Drafts
 mod Unfolded

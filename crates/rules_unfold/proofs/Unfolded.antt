@@ -11,7 +11,7 @@ use Rattle.map_model.specs.declared.step.Step.TheVariants.{Unfold}
 use Rattle.map_model.specs.declared.refusal.Refusal.{Refusal}
 use Rattle.map_model.specs.declared.refusal.Refusal.TheVariants.{NoMemory, NoAtom}
 use Rattle.map_model.specs.State.{Entry, State, live_at}
-use Rattle.map_model.specs.Merging.{in_range}
+use Rattle.fold_model.specs.Positions.{in_range}
 use Rattle.map_model.specs.Rewriting.{Rewriting, new_entries, replaced_by, rewritten, within_limits}
 use Rattle.map_model.specs.Unfolding.{resolvents, resolvents_from, unfold_of, unfold_after}
 use Rattle.map_state.specs.declared.change.Made.{Made}

@@ -6,7 +6,8 @@ ghost use Rattle.map_state.specs.Seen.{state_of};
 ghost use Rattle.map_state.specs.Changes.{IsChange, changed};
 
 use crate::resolving::resolvents;
-use map_state::{Change, Made, Refusal, State, Step, in_range, removed, rewrite};
+use clause_fold::in_range;
+use map_state::{Change, Made, Refusal, State, Step, removed, rewrite};
 use sqlite_items::Items;
 use std::alloc::Global;
 use term_store::Store;

@@ -1,0 +1,4 @@
+pub mod Images
+pub mod Internal
+pub mod Folded
+pub mod Marks

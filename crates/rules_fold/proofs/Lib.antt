@@ -1,0 +1,4 @@
+pub mod Parts
+pub mod Broken
+pub mod Counted
+pub mod ShownImages
