@@ -10,8 +10,8 @@ use itoa::Buffer;
 use lin_row::Row;
 use term_store::NoMemory;
 
-/// Appends `V` and the number.
-pub(crate) fn variable(number: u32, into: &mut String) -> Result<(), NoMemory>
+/// Appends `V` and the number. After an error the `V` may be there alone.
+pub fn print_variable(number: usize, into: &mut String) -> Result<(), NoMemory>
     ensures { OnOk result (string_bytes into.new ≡ string_bytes into.old ++ variable_text number) }
 {
     into.push_str("V")?;
@@ -27,7 +27,7 @@ fn product(magnitude: u64, number: u32, into: &mut String) -> Result<(), NoMemor
         into.push_str(Buffer::new().format(magnitude))?;
         into.push_str("*")?;
     }
-    variable(number, into)
+    print_variable(number as usize, into)
 }
 
 /// How what is added to a sum is joined to it.

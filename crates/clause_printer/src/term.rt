@@ -8,7 +8,7 @@ ghost use Rattle.print_model.specs.Terms.{simple, atom_text};
 ghost use Rattle.clause_printer.specs.Stored.{texts_at, all_texts_at, IsCell, IsNoCell, Follows};
 
 use crate::name::name;
-use crate::row::variable;
+use crate::row::print_variable;
 use term_store::{Look, NoMemory, Store, Term};
 
 /// What follows an element of a list.
@@ -55,7 +55,7 @@ fn term(store: &Store, t: Term, into: &mut String) -> Result<(), NoMemory>
     ensures { OnOk result (string_bytes into.new ≡ string_bytes into.old ++ (texts_at store.now t).whole) }
 {
     match store.look(t) {
-        Look::Var(number, _) => variable(number, into),
+        Look::Var(number, _) => print_variable(number as usize, into),
         Look::App(name, args) => match cell(name, args) {
             Some((first, rest)) => list(store, first, rest, into),
             None => application(store, name, args, into),
@@ -145,7 +145,7 @@ pub(crate) fn atom(store: &Store, t: Term, into: &mut String) -> Result<(), NoMe
     ensures { OnOk result (string_bytes into.new ≡ string_bytes into.old ++ atom_text (atom_at store.now t)) }
 {
     match store.look(t) {
-        Look::Var(number, _) => variable(number, into),
+        Look::Var(number, _) => print_variable(number as usize, into),
         Look::App(name, args) => applied(store, name, args, into),
     }
 }

@@ -16,9 +16,13 @@ use token_model::{Fault, Kind, Lexeme, ReadError};
 /// How many clauses a program may have.
 const MAX_CLAUSES: usize = 4096;
 
-/// The clause that comes next.
+/// The clause that comes next, up to and with what ends it.
+///
+/// # Errors
+///
+/// `Fault` exactly where the text has no clause here, and `NoMemory` where there was not enough of it.
 #[tactic(auto, unfolding(clp_grammar::specs::Grammar::clause_with))]
-pub(crate) fn clause(
+pub fn clause(
     alloc: Global,
     reader: &mut Reader<'_>,
     ending: Ending,

@@ -6,5 +6,6 @@ mod clauses;
 mod places;
 mod texts;
 
+pub use clauses::clause;
 pub use places::clause_at;
 pub use texts::{read_clauses, read_goal, read_program};

@@ -11,7 +11,9 @@ use Rattle.farkas_check.specs.declared.cert.Cert.{Cert}
 use Rattle.farkas_check.specs.declared.cert.Cert.TheVariants.{One, Two}
 use Rattle.map_model.specs.declared.shown.Shown.{Shown}
 use Rattle.map_model.specs.declared.shown.Shown.TheVariants.{Find, Given}
-use Rattle.script_grammar.specs.Fields.{word, number_within}
+use Rattle.map_model.specs.declared.shown.Shows.{Shows}
+use Rattle.map_model.specs.declared.shown.Shows.TheVariants as shows
+use Rattle.script_grammar.specs.Fields.{word, number_within, listed}
 
 -- a multiplier, with or without a `-` before it
 unfoldable pub multiplier : Parser Remaining ℤ
@@ -47,3 +49,7 @@ certificate = do
 -- `find`, or a certificate, which begins with no name
 unfoldable pub shown : Parser Remaining Shown
 shown = λ r. if sees l.Name r then (word rule.Find >> pure Find) r else (Given <$> certificate) r
+
+-- `find`, or what shows each of several rows, which begins with no name
+unfoldable pub all_shown : Parser Remaining Shows
+all_shown = λ r. if sees l.Name r then (word rule.Find >> pure shows.Find) r else (shows.Each <$> listed shown) r

@@ -1,5 +1,5 @@
 -- The grammar of scripts, read from the left with one token ahead.
-use Rattle.std.specs.Prelude.{ℕ, zero, suc, Bool, true, false, if◌then◌else◌, List, [], ◌∷◌, ◌++◌, codes, Option, Some, None, Result, Ok, Err}
+use Rattle.std.specs.Prelude.{ℕ, zero, suc, if◌then◌else◌, List, [], ◌∷◌, ◌++◌, codes, Option, Some, None, Result, Ok, Err}
 use Rattle.case_table.specs.declared.rule_word.RuleWord.{RuleWord}
 use Rattle.case_table.specs.declared.rule_word.RuleWord.TheVariants as rule
 use Rattle.case_table.specs.Rules.{rule_case}
@@ -8,12 +8,13 @@ use Rattle.token_model.specs.declared.token.Lexeme.TheVariants as l
 use Rattle.token_model.specs.declared.fault.Kind.TheVariants.{TooMany, NoVersion, Version}
 use Rattle.token_model.specs.declared.fault.Fault.{Fault}
 use Rattle.token_model.specs.Remaining.{Remaining, whole, spelling, next, sees, fault_at, refusal, refuse, expect}
-use Rattle.token_model.specs.Parsers.{Parser, ◌>>=◌, ◌>>◌, pure, value_of}
+use Rattle.token_model.specs.Parsers.{Parser, ◌>>=◌, ◌>>◌, ◌<$>◌, pure, value_of}
+use Rattle.clp_grammar.specs.Grammar.{clause}
 use Rattle.row_grammar.specs.Row.{row_to_show}
 use Rattle.map_model.specs.declared.step.Step.{Step}
-use Rattle.map_model.specs.declared.step.Step.TheVariants.{Unfold, DeleteFalse, Merge, Add, Drop, Project, Equate}
-use Rattle.script_grammar.specs.Fields.{word_or, word, number_within, number32}
-use Rattle.script_grammar.specs.Certificates.{shown}
+use Rattle.map_model.specs.declared.step.Step.TheVariants.{Define, Unfold, Fold, DeleteFalse, Merge, Add, Drop, Project, Equate}
+use Rattle.script_grammar.specs.Fields.{word_or, word, number_within, number32, predicate, listed}
+use Rattle.script_grammar.specs.Certificates.{shown, all_shown}
 
 -- how many steps a script may have
 abbrev pub max_steps : ℕ
@@ -29,6 +30,10 @@ version_line = do
 
 -- ---- what follows the word of a step, up to and with its end
 
+-- a clause, whose end is that of the step: its tokens and grammar come first, and then what it stands for
+unfoldable pub define_fields : Parser Remaining Step
+define_fields = Define <$> clause
+
 unfoldable pub unfold_fields : Parser Remaining Step
 unfold_fields = do
   id ← number32
@@ -36,6 +41,22 @@ unfold_fields = do
   position ← number32
   expect l.End
   pure (Unfold id position)
+
+unfoldable pub fold_fields : Parser Remaining Step
+fold_fields = do
+  id ← number32
+  word rule.At
+  at ← listed number32
+  word rule.By
+  by ← predicate
+  word rule.With
+  images ← listed number32
+  word rule.Keep
+  keep ← listed number32
+  word rule.Show
+  show ← all_shown
+  expect l.End
+  pure (Fold id at by images keep show)
 
 unfoldable pub delete_fields : Parser Remaining Step
 delete_fields = do
@@ -103,7 +124,9 @@ rule_ahead r = if sees l.Name r then rule_case (spelling r) else None
 
 -- what follows the word of a rule, where a step begins with it
 abbrev pub fields_by : RuleWord → Option (Parser Remaining Step)
+fields_by rule.Define = Some define_fields
 fields_by rule.Unfold = Some unfold_fields
+fields_by rule.Fold = Some fold_fields
 fields_by rule.Delete = Some delete_fields
 fields_by rule.Merge = Some merge_fields
 fields_by rule.Add = Some add_fields

@@ -13,7 +13,7 @@ use Rattle.token_model.specs.White.{skipped}
 use Rattle.token_model.specs.Remaining.{Remaining, ahead, left, lexeme, same_lexeme}
 use Rattle.token_model.specs.Parsers.{Parser, ◌>>=◌, ◌>>◌, ◌<$>◌, pure}
 use Rattle.print_model.specs.Joined.{joined}
-use Rattle.printed_tokens.specs.Next.{EndsNumber}
+use Rattle.printed_tokens.specs.Next.{EndsName, EndsNumber}
 use Rattle.printed_tokens.proofs.Next.{at_front}
 use Rattle.printed_tokens.proofs.Numbers.{number_is, number_stays}
 use Rattle.printed_tokens.proofs.Marks.{open_square_is, close_square_is, comma_is, end_is}
@@ -31,8 +31,8 @@ use Rattle.case_table.specs.Rules.{rule_word}
 use Rattle.script_grammar.specs.Fields.{word, number_within}
 use Rattle.script_grammar.specs.Certificates as grammar
 use Rattle.script_grammar.specs.Certificates.{multiplier, multipliers_from}
-use Rattle.script_grammar.specs.ScriptText.{word_text, part_text, certificate_text, show_text, IsCertificate, IsShown}
-use Rattle.script_laws.proofs.Tokens.{Reads, Comes, goes_on, reads_nothing, expected, eaten, left_alone, chosen, not_chosen, plain_comes, word_read, number_read, name_ends_at_dot, number_ends_at_comma, number_ends_at_bracket}
+use Rattle.script_grammar.specs.ScriptText.{word_text, part_text, certificate_text, show_text, shown_text, IsCertificate, IsShown}
+use Rattle.script_laws.proofs.Tokens.{Reads, Comes, goes_on, reads_nothing, expected, eaten, left_alone, chosen, not_chosen, plain_comes, word_read, number_read, number_ends_at_comma, number_ends_at_bracket}
 
 -- ---- multipliers
 
@@ -102,7 +102,7 @@ enough_turns p rest within =
     rw (signed_stays p.k (further p.m ++ 93 ∷ rest) within)
     (omega (arith, further_long p.m, length-append (signed_decimal p.k) (further p.m ++ 93 ∷ rest), length-append (further p.m) (93 ∷ rest)))
 
-by_left : {A : Type 0} (p : ℕ → Parser Remaining A) (text : List ℕ) (a : A) (rest : List ℕ) → Reads (p (length (skipped text))) text a rest → Reads (λ r. p (left r) r) text a rest
+pub by_left : {A : Type 0} (p : ℕ → Parser Remaining A) (text : List ℕ) (a : A) (rest : List ℕ) → Reads (p (length (skipped text))) text a rest → Reads (λ r. p (left r) r) text a rest
 unfolding left ahead
 by_left p text a rest h = record { is = h.is }
 
@@ -123,52 +123,63 @@ part_read p text rest within front =
 second_by : Part → Bool → Parser Remaining Cert
 second_by first has_second = if has_second then Two first <$> grammar.part else pure (One first)
 
-pub certificate_read : (c : Cert) (text rest : List ℕ) → IsCertificate c → IsEndBefore rest → skipped text ≡ certificate_text c ++ 46 ∷ rest → Reads grammar.certificate text c (46 ∷ rest)
-unfolding grammar.certificate same_lexeme ahead skipped second_by token mark
-certificate_read (One p) text rest within ends front =
-    let other : (a : Bool) → same_lexeme (lexeme (behind (46 ∷ rest) a)) l.Over ≡ false =
-    λ a. ap (λ (k : Lexeme). same_lexeme k l.Over) (end_is (behind (46 ∷ rest) a) rest ends refl).lexeme in
-    goes_on _ (part_read p text (46 ∷ rest) within front) (goes_on (second_by p) (left_alone l.Over (46 ∷ rest) other) (reads_nothing (One p) (46 ∷ rest)))
+-- no further part of a certificate stands here
+abbrev pub NoPart : List ℕ → Type 0
+NoPart rest = (after_number : Bool) → same_lexeme (lexeme (behind rest after_number)) l.Over ≡ false
+
+pub certificate_read : (c : Cert) (text rest : List ℕ) → IsCertificate c → NoPart rest → skipped text ≡ certificate_text c ++ rest → Reads grammar.certificate text c rest
+unfolding grammar.certificate ahead skipped second_by token mark
+certificate_read (One p) text rest within ends front = goes_on _ (part_read p text rest within front) (goes_on (second_by p) (left_alone l.Over rest ends) (reads_nothing (One p) rest))
 certificate_read (Two p q) text rest within ends front =
-    let second = part_text q ++ 46 ∷ rest in
-    let here : skipped text ≡ part_text p ++ 47 ∷ second = front ∙ append_assoc (part_text p) (codes "/" ++ part_text q) (46 ∷ rest) in
+    let second = part_text q ++ rest in
+    let here : skipped text ≡ part_text p ++ 47 ∷ second = front ∙ append_assoc (part_text p) (codes "/" ++ part_text q) rest in
     goes_on _ (part_read p text (47 ∷ second) within.0 here)
     (goes_on (second_by p) (eaten l.Over (47 ∷ []) (47 ∷ second) second (λ a. at_front (behind (47 ∷ second) a) (47 ∷ []) second l.Over refl (λ b. refl)))
-    (goes_on _ (part_read q second (46 ∷ rest) within.1 refl) (reads_nothing (Two p q) (46 ∷ rest))))
+    (goes_on _ (part_read q second rest within.1 refl) (reads_nothing (Two p q) rest)))
+
+pub no_part_at_end : (rest : List ℕ) → IsEndBefore rest → NoPart (46 ∷ rest)
+unfolding same_lexeme ahead skipped
+no_part_at_end rest ends a = ap (λ (k : Lexeme). same_lexeme k l.Over) (end_is (behind (46 ∷ rest) a) rest ends refl).lexeme
 
 -- ---- what shows a step
 
--- what stands behind `show`
-abbrev pub shown_text : Shown → List ℕ
-shown_text Find = word_text rule.Find
-shown_text (Given c) = codes " " ++ certificate_text c
-
-pub show_text_is : (show : Shown) (rest : List ℕ) → show_text show ++ rest ≡ word_text rule.Show ++ (shown_text show ++ rest)
+pub show_text_is : (show : Shown) (rest : List ℕ) → show_text show ++ rest ≡ word_text rule.Show ++ 32 ∷ (shown_text show ++ rest)
 show_text_is Find rest = refl
 show_text_is (Given c) rest = refl
 
-part_comes : (p : Part) (y : List ℕ) (a : Bool) → same_lexeme (lexeme (behind (32 ∷ (part_text p ++ y)) a)) l.Name ≡ false
-unfolding same_lexeme ahead skipped
-part_comes p y a =
-    let text = 32 ∷ (part_text p ++ y) in
-    ap (λ (k : Lexeme). same_lexeme k l.Name) (open_square_is (behind text a) _ refl).lexeme
+-- a certificate begins with a bracket
+pub certificate_begins : (c : Cert) (text rest : List ℕ) → skipped text ≡ certificate_text c ++ rest → (a : Bool) → lexeme (behind text a) ≡ l.OpenSquare
+unfolding ahead
+certificate_begins (One p) text rest front a = (open_square_is (behind text a) _ front).lexeme
+certificate_begins (Two p q) text rest front a = (open_square_is (behind text a) _ (front ∙ append_assoc (part_text p) (codes "/" ++ part_text q) rest)).lexeme
 
-no_name_comes : (c : Cert) (y : List ℕ) (a : Bool) → same_lexeme (lexeme (behind (32 ∷ (certificate_text c ++ y)) a)) l.Name ≡ false
-no_name_comes (One p) y a = part_comes p y a
-no_name_comes (Two p q) y a = rw (append_assoc (part_text p) (codes "/" ++ part_text q) y) (part_comes p (codes "/" ++ part_text q ++ y) a)
+pub bracket_is_no_name : (k : Lexeme) → k ≡ l.OpenSquare → same_lexeme k l.Name ≡ false
+unfolding same_lexeme
+bracket_is_no_name k e = ap (λ (found : Lexeme). same_lexeme found l.Name) e
 
 certificate_stays : (c : Cert) (y : List ℕ) → skipped (certificate_text c ++ y) ≡ certificate_text c ++ y
 unfolding skipped
 certificate_stays (One p) y = refl
 certificate_stays (Two p q) y = refl
 
-pub shown_read : (show : Shown) (rest : List ℕ) → IsShown show → IsEndBefore rest → Reads grammar.shown (shown_text show ++ 46 ∷ rest) show (46 ∷ rest)
-unfolding grammar.shown same_lexeme skipped
-shown_read Find rest within ends =
-    let text = shown_text Find ++ 46 ∷ rest in
-    let comes : Comes text l.Name (rule_word rule.Find) (46 ∷ rest) = plain_comes (rule_word rule.Find) text (46 ∷ rest) refl (omega arith) refl (name_ends_at_dot rest) in
-    chosen l.Name (word rule.Find >> pure Find) (Given <$> grammar.certificate) text Find (46 ∷ rest) (λ a. ap (λ (k : Lexeme). same_lexeme k l.Name) (comes a).lexeme)
-    (goes_on _ (word_read Unexpected (rule_word rule.Find) text (46 ∷ rest) refl (omega arith) refl (name_ends_at_dot rest)) (reads_nothing Find (46 ∷ rest)))
-shown_read (Given c) rest within ends =
-    not_chosen l.Name (word rule.Find >> pure Find) (Given <$> grammar.certificate) (shown_text (Given c) ++ 46 ∷ rest) (Given c) (46 ∷ rest) (no_name_comes c (46 ∷ rest))
-    (goes_on _ (certificate_read c (shown_text (Given c) ++ 46 ∷ rest) rest within ends (certificate_stays c (46 ∷ rest))) (reads_nothing (Given c) (46 ∷ rest)))
+-- what shows a row begins with no white and no comment
+pub shown_stays : (show : Shown) (rest : List ℕ) → skipped (shown_text show ++ rest) ≡ shown_text show ++ rest
+unfolding skipped
+shown_stays Find rest = refl
+shown_stays (Given c) rest = certificate_stays c rest
+
+pub find_comes : (text rest : List ℕ) → EndsName rest → skipped text ≡ rule_word rule.Find ++ rest → Comes text l.Name (rule_word rule.Find) rest
+find_comes text rest ends front = plain_comes (rule_word rule.Find) text rest refl (omega arith) front ends
+
+pub name_is_name : (k : Lexeme) → k ≡ l.Name → same_lexeme k l.Name ≡ true
+unfolding same_lexeme
+name_is_name k e = ap (λ (found : Lexeme). same_lexeme found l.Name) e
+
+pub shown_read : (show : Shown) (text rest : List ℕ) → IsShown show → EndsName rest → NoPart rest → skipped text ≡ shown_text show ++ rest → Reads grammar.shown text show rest
+unfolding grammar.shown
+shown_read Find text rest within ends no_part front =
+    chosen l.Name (word rule.Find >> pure Find) (Given <$> grammar.certificate) text Find rest (λ a. name_is_name _ (find_comes text rest ends front a).lexeme)
+    (goes_on _ (word_read Unexpected (rule_word rule.Find) text rest refl (omega arith) front ends) (reads_nothing Find rest))
+shown_read (Given c) text rest within ends no_part front =
+    not_chosen l.Name (word rule.Find >> pure Find) (Given <$> grammar.certificate) text (Given c) rest (λ a. bracket_is_no_name _ (certificate_begins c text rest front a))
+    (goes_on _ (certificate_read c text rest within no_part front) (reads_nothing (Given c) rest))

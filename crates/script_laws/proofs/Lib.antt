@@ -1,11 +1,14 @@
 pub mod Tokens
 pub mod Certificates
+pub mod Lists
+pub mod Sources
 pub mod Variables
 pub mod PrintedRows
 pub mod Steps
-pub mod Ascii
+pub mod Texts
 pub mod Scripts
 pub mod Outcomes
 pub mod ReadCertificates
+pub mod ReadLists
 pub mod ReadRows
 pub mod ReadSteps

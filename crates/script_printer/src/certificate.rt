@@ -42,7 +42,7 @@ fn part(part: &Part, into: &mut String) -> Result<(), NoMemory>
 }
 
 #[tactic(auto, using(std::proofs::lemmas::List::append_assoc))]
-fn certificate(certificate: &Cert, into: &mut String) -> Result<(), NoMemory>
+pub fn certificate(certificate: &Cert, into: &mut String) -> Result<(), NoMemory>
     ensures { OnOk result (string_bytes into.new ≡ string_bytes into.old ++ spec.certificate_text certificate.now) }
 {
     match certificate {

@@ -2,6 +2,9 @@
 #![tactic(auto)]
 
 mod certificate;
+mod list;
+mod source;
 mod step;
+mod tree;
 
 pub use step::{print_script, print_step};

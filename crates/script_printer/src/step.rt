@@ -1,14 +1,19 @@
 //! Prints steps and scripts.
 
-ghost use Rattle.std.specs.Prelude.{◌≡◌, ◌++◌, OnOk, OnErr, string_bytes};
+ghost use Rattle.std.specs.Prelude.{◌≡◌, ◌++◌, OnOk, OnErr, string_bytes, codes};
 ghost use Rattle.script_grammar.specs.ScriptText as spec;
 ghost use Rattle.case_table.specs.Rules.{rule_word};
+ghost use Rattle.case_table.specs.declared.rule_word.RuleWord.TheVariants as rule;
+ghost use Rattle.map_model.specs.declared.step.Step.TheVariants as step;
 
 use crate::certificate::{shown, word};
+use crate::list::{all_shown, fields, predicate};
 use case_table::{Cases, RuleWord};
 use clause_printer::print_row;
+use clause_store::{Row, SourceClause};
+use clp_model::Pred;
 use itoa::Buffer;
-use map_model::Step;
+use map_model::{Shown, Shows, Step};
 use term_store::NoMemory;
 
 /// Appends a space and a number.
@@ -38,35 +43,120 @@ fn named(name: RuleWord, number: u32, into: &mut String) -> Result<(), NoMemory>
     field(number, into)
 }
 
+/// Appends a word with numbers in square brackets behind it.
+#[tactic(auto, using(std::proofs::lemmas::List::append_assoc))]
+fn listed(name: RuleWord, numbers: &[u32], into: &mut String) -> Result<(), NoMemory>
+    ensures { OnOk result (string_bytes into.new ≡ string_bytes into.old ++ (spec.word_text name ++ spec.fields_text numbers.now)) }
+{
+    word(name, into)?;
+    fields(numbers, into)
+}
+
+#[tactic(auto, using(std::proofs::lemmas::List::append_assoc), unfolding(script_grammar::specs::ScriptText::words_text))]
+fn define(source: &SourceClause, into: &mut String) -> Result<(), NoMemory>
+    ensures { OnOk result (string_bytes into.new ≡ string_bytes into.old ++ spec.words_text (step.Define source.now)) }
+{
+    into.push_str(RuleWord::Define.word_of())?;
+    into.push_str(" ")?;
+    crate::source::source(source, into)
+}
+
+/// Appends which definition folds, and the variables and rows that a fold names.
+#[tactic(auto, using(std::proofs::lemmas::List::append_assoc))]
+fn definition(by: &Pred, with: &[u32], keep: &[u32], into: &mut String) -> Result<(), NoMemory>
+    ensures { OnOk result (string_bytes into.new ≡ string_bytes into.old ++ (spec.word_text rule.By ++ (codes " " ++ (spec.predicate_text by.now ++ (spec.word_text rule.With ++ (spec.fields_text with.now ++ (spec.word_text rule.Keep ++ spec.fields_text keep.now))))))) }
+{
+    word(RuleWord::By, into)?;
+    into.push_str(" ")?;
+    predicate(by, into)?;
+    listed(RuleWord::With, with, into)?;
+    listed(RuleWord::Keep, keep, into)
+}
+
+#[tactic(auto, using(std::proofs::lemmas::List::append_assoc), unfolding(script_grammar::specs::ScriptText::words_text))]
+fn fold(
+    id: u32,
+    at: &[u32],
+    by: &Pred,
+    with: &[u32],
+    keep: &[u32],
+    show: &Shows,
+    into: &mut String,
+) -> Result<(), NoMemory>
+    ensures { OnOk result (string_bytes into.new ≡ string_bytes into.old ++ spec.words_text (step.Fold id at.now by.now with.now keep.now show.now)) }
+{
+    rule(RuleWord::Fold, id, into)?;
+    listed(RuleWord::At, at, into)?;
+    definition(by, with, keep, into)?;
+    all_shown(show, into)
+}
+
+#[tactic(auto, using(std::proofs::lemmas::List::append_assoc), unfolding(script_grammar::specs::ScriptText::words_text))]
+fn merge(id: u32, first: u32, second: u32, into: &mut String) -> Result<(), NoMemory>
+    ensures { OnOk result (string_bytes into.new ≡ string_bytes into.old ++ spec.words_text (step.Merge id first second)) }
+{
+    rule(RuleWord::Merge, id, into)?;
+    named(RuleWord::At, first, into)?;
+    into.push_str(",")?;
+    into.push_str(Buffer::new().format(second))?;
+    Ok(())
+}
+
+#[tactic(auto, using(std::proofs::lemmas::List::append_assoc), unfolding(script_grammar::specs::ScriptText::words_text))]
+fn add(id: u32, row: &Row, show: &Shown, into: &mut String) -> Result<(), NoMemory>
+    ensures { OnOk result (string_bytes into.new ≡ string_bytes into.old ++ spec.words_text (step.Add id row.now show.now)) }
+{
+    rule(RuleWord::Add, id, into)?;
+    word(RuleWord::Row, into)?;
+    into.push_str(" ")?;
+    print_row(row, into)?;
+    shown(show, into)
+}
+
+#[tactic(auto, using(std::proofs::lemmas::List::append_assoc), unfolding(script_grammar::specs::ScriptText::words_text))]
+fn equate(id: u32, var: u32, to: u32, show: &Shown, into: &mut String) -> Result<(), NoMemory>
+    ensures { OnOk result (string_bytes into.new ≡ string_bytes into.old ++ spec.words_text (step.Equate id var to show.now)) }
+{
+    rule(RuleWord::Equate, id, into)?;
+    named(RuleWord::Var, var, into)?;
+    named(RuleWord::To, to, into)?;
+    shown(show, into)
+}
+
 /// Appends the words and the fields of a step; after an error some of them may be there.
 #[tactic(auto, using(std::proofs::lemmas::List::append_assoc), unfolding(script_grammar::specs::ScriptText::words_text))]
 fn words(step: &Step, into: &mut String) -> Result<(), NoMemory>
     ensures { OnOk result (string_bytes into.new ≡ string_bytes into.old ++ spec.words_text step.now) }
 {
     match step {
+        Step::Define { source } => define(source, into),
         Step::Unfold { id, at } => {
             rule(RuleWord::Unfold, *id, into)?;
             named(RuleWord::At, *at, into)
         }
+        Step::Fold {
+            id,
+            at,
+            by,
+            with,
+            keep,
+            show,
+        } => fold(
+            *id,
+            at.as_slice(),
+            by,
+            with.as_slice(),
+            keep.as_slice(),
+            show,
+            into,
+        ),
         Step::DeleteFalse { id, show } => {
             rule(RuleWord::Delete, *id, into)?;
             word(RuleWord::False, into)?;
             shown(show, into)
         }
-        Step::Merge { id, first, second } => {
-            rule(RuleWord::Merge, *id, into)?;
-            named(RuleWord::At, *first, into)?;
-            into.push_str(",")?;
-            into.push_str(Buffer::new().format(*second))?;
-            Ok(())
-        }
-        Step::Add { id, row, show } => {
-            rule(RuleWord::Add, *id, into)?;
-            word(RuleWord::Row, into)?;
-            into.push_str(" ")?;
-            print_row(row, into)?;
-            shown(show, into)
-        }
+        Step::Merge { id, first, second } => merge(*id, *first, *second, into),
+        Step::Add { id, row, show } => add(*id, row, show, into),
         Step::Drop { id, row, show } => {
             rule(RuleWord::Drop, *id, into)?;
             named(RuleWord::Row, *row, into)?;
@@ -76,12 +166,7 @@ fn words(step: &Step, into: &mut String) -> Result<(), NoMemory>
             rule(RuleWord::Project, *id, into)?;
             named(RuleWord::Var, *var, into)
         }
-        Step::Equate { id, var, to, show } => {
-            rule(RuleWord::Equate, *id, into)?;
-            named(RuleWord::Var, *var, into)?;
-            named(RuleWord::To, *to, into)?;
-            shown(show, into)
-        }
+        Step::Equate { id, var, to, show } => equate(*id, *var, *to, show, into),
     }
 }
 

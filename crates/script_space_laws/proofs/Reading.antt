@@ -1,80 +1,31 @@
 -- What is read from texts of the same tokens, by the steps of the rules of scripts.
-use Rattle.std.proofs.Common.{◌≡◌, ◌≢◌, ◌<◌, ◌+◌, ℕ, ℤ, zero, suc, Bool, true, false, ◌&&◌, List, [], ◌∷◌, ◌++◌, nat_le, if◌then◌else◌, Ok, Err, refl, ap, ◌∙◌, sym, subst, arith}
+use Rattle.std.proofs.Common.{◌≡◌, ◌+◌, ◌||◌, ◌&&◌, ℕ, ℤ, zero, suc, Bool, true, false, List, [], ◌∷◌, ◌++◌, nat_le, if◌then◌else◌, Ok, Err, refl, ap, ◌∙◌, sym, subst, arith}
 use Rattle.std.specs.Prelude.{pos, neg_ℤ}
 use Rattle.std.specs.Str.{bytes_eq}
 use Rattle.case_table.specs.declared.rule_word.RuleWord.{RuleWord}
 use Rattle.case_table.specs.declared.rule_word.RuleWord.TheVariants as rule
 use Rattle.case_table.specs.Rules.{rule_word}
+use Rattle.clp_model.specs.declared.predicate.Pred.{Pred}
 use Rattle.token_model.specs.declared.token.Lexeme.{Lexeme}
 use Rattle.token_model.specs.declared.token.Lexeme.TheVariants as l
 use Rattle.token_model.specs.declared.fault.Kind.{Kind}
 use Rattle.token_model.specs.declared.fault.Kind.TheVariants.{Unexpected, BadNumber}
 use Rattle.token_model.specs.Numbers.{number_value}
-use Rattle.token_model.specs.Remaining.{Remaining, lexeme, spelling, next, left, sees, after, same_lexeme, reason, fault_at, refusal, eat, expect}
+use Rattle.token_model.specs.Remaining.{Remaining, lexeme, spelling, next, left, sees, reason, fault_at, refusal, eat, expect}
 use Rattle.token_model.specs.Parsers.{Outcome, Parser, and_then, ◌>>=◌, ◌>>◌, ◌<$>◌, pure}
+use Rattle.token_cursor.specs.Escapes.{name_by}
 use Rattle.linear_model.specs.Certificates.{Part}
 use Rattle.linear_model.specs.Chain.{multiplier_limit, part_of}
 use Rattle.farkas_check.specs.declared.cert.Cert.{Cert}
 use Rattle.farkas_check.specs.declared.cert.Cert.TheVariants.{One, Two}
 use Rattle.map_model.specs.declared.shown.Shown.TheVariants.{Find, Given}
-use Rattle.script_grammar.specs.Fields.{in_place_of, refusal_as, sees_word, word_or, word, number_within}
-use Rattle.script_grammar.specs.Certificates.{multiplier, multipliers_from, part, certificate, shown}
-use Rattle.turn_laws.proofs.Tokens.{next_fewer, nothing_left}
-use Rattle.turn_laws.proofs.Reading.{IfRead, then_read, further, after_within}
+use Rattle.map_model.specs.declared.shown.Shows.TheVariants as shows
+use Rattle.script_grammar.specs.Fields.{in_place_of, refusal_as, sees_word, word_or, word, number_within, number32, max_field, name, predicate, listed_from, listed_by, listed}
+use Rattle.script_grammar.specs.Certificates.{multiplier, multipliers_from, part, certificate, shown, all_shown}
 use Rattle.space_laws.specs.Same.{Matches, ReadsAlike}
 use Rattle.space_laws.specs.Moved.{moved_fault}
 use Rattle.space_laws.proofs.Reading.{matches_next, matches_lexeme, matches_sees, matches_after, fault_same, token_refusal_same}
-use Rattle.script_space_laws.specs.Laws.{MultiplierTurns}
-
--- ---- the turns of multipliers
-
-same_behind : {A B : Type 0} (o : Outcome Remaining A) (f g : A → Parser Remaining B) → IfRead o (λ a r. f a r ≡ g a r) → and_then o f ≡ and_then o g
-same_behind (Ok p) f g h = h
-same_behind (Err e) f g h = refl
-
-sees_number : (r : Remaining) → sees l.Number r ≡ true → lexeme r ≢ l.Finish
-unfolding sees same_lexeme
-sees_number r h f = let g : same_lexeme l.Finish l.Number ≡ true = rw f at h in cc
-
-number_takes : (low high : ℕ) (other : Kind) (r : Remaining) → IfRead (number_within low high other r) (λ n s. left s < left r)
-unfolding number_within
-number_takes low high other r = go (sees l.Number r) refl (nat_le low (number_value (spelling r)) && nat_le (number_value (spelling r)) high)
-  where
-    checked : Bool → Outcome Remaining ℕ
-    checked u = if u then Ok (number_value (spelling r), next r) else Err (fault_at other r)
-
-    go : (t : Bool) → sees l.Number r ≡ t → (u : Bool) → IfRead (if t then checked u else Err (refusal r)) (λ n s. left s < left r)
-    go true h true = next_fewer r (sees_number r h)
-    go true h false = tt
-    go false h u = tt
-
-multiplier_takes : (r : Remaining) → IfRead (multiplier r) (λ n s. left s < left r)
-unfolding multiplier
-multiplier_takes r =
-    let p = after_within l.Minus r in
-    then_read (number_within 0 multiplier_limit BadNumber (after l.Minus r)) (λ magnitude. pure (if sees l.Minus r then neg_ℤ (pos magnitude) else pos magnitude)) (λ n s. left s < left (after l.Minus r)) (λ n s. left s < left r) (number_takes 0 multiplier_limit BadNumber (after l.Minus r)) (λ n s h. omega arith)
-
-multiplier_refuses : (r : Remaining) → lexeme r ≡ l.Finish → multiplier r ≡ Err (refusal r)
-unfolding multiplier number_within sees after same_lexeme
-multiplier_refuses r h = rw h (rw h refl)
-
-abbrev more_multipliers : ℕ → List ℤ → Bool → Parser Remaining (List ℤ)
-more_multipliers n found goes_on = if goes_on then multipliers_from n found else pure found
-
-pub multipliers_turn : MultiplierTurns
-unfolding multipliers_from
-multipliers_turn zero zero found r h w = refl
-multipliers_turn zero (suc m) found r h w = ap (λ (o : Outcome Remaining ℤ). and_then o (λ x. eat l.Comma >>= more_multipliers m (found ++ x ∷ []))) (multiplier_refuses r (nothing_left r h))
-multipliers_turn (suc n) zero found r h w = absurd (omega arith)
-multipliers_turn (suc n) (suc m) found r h w =
-    same_behind (multiplier r) (λ x. eat l.Comma >>= more_multipliers m (found ++ x ∷ [])) (λ x. eat l.Comma >>= more_multipliers n (found ++ x ∷ []))
-    (further (multiplier r) (λ x s. left s < left r) (λ x s. (eat l.Comma >>= more_multipliers m (found ++ x ∷ [])) s ≡ (eat l.Comma >>= more_multipliers n (found ++ x ∷ [])) s) (multiplier_takes r) (λ x s g.
-    let p = after_within l.Comma s in
-    go (found ++ x ∷ []) (after l.Comma s) (multipliers_turn n m (found ++ x ∷ []) (after l.Comma s) (omega arith) (omega arith)) (sees l.Comma s)))
-  where
-    go : (all : List ℤ) (s : Remaining) → multipliers_from m all s ≡ multipliers_from n all s → (t : Bool) → more_multipliers m all t s ≡ more_multipliers n all t s
-    go all s rest true = rest
-    go all s rest false = refl
+use Rattle.script_space_laws.proofs.Turns.{TurnsNeverDecide, more_items, multiplier_turn, multipliers_listed, numbers_turn, shown_turn}
 
 -- ---- texts of the same tokens
 
@@ -146,6 +97,66 @@ module _ (to : ℕ → ℕ) where
       go true = by_same (spelling r) (spelling s) (λ z r. checked (number_value z) r) r s (spelling_same r s h) (λ z. within (number_value z) (nat_le low (number_value z) && nat_le (number_value z) high))
       go false = token_refusal_same to r s h
 
+  -- ---- lists
+
+  listed_turns_same : {A : Type 0} (item : Parser Remaining A) → SameParser to item → (n : ℕ) (found : List A) → SameParser to (listed_from item n found)
+  unfolding listed_from
+  listed_turns_same item same zero found = λ r s h. token_refusal_same to r s h
+  listed_turns_same {A} item same (suc n) found =
+      then_same item (λ x. eat l.Comma >>= more_items item n (found ++ x ∷ [])) same (λ x.
+      then_same (eat l.Comma) (more_items item n (found ++ x ∷ [])) (eat_same l.Comma) (λ goes_on. go (found ++ x ∷ []) (listed_turns_same item same n (found ++ x ∷ [])) goes_on))
+    where
+      go : (all : List A) → SameParser to (listed_from item n all) → (t : Bool) → SameParser to (more_items item n all t)
+      go all rest true = rest
+      go all rest false = pure_same all
+
+  some_same : {A : Type 0} (item : Parser Remaining A) → TurnsNeverDecide item → SameParser to item → SameParser to (λ r. listed_from item (left r) [] r)
+  some_same {A} item turn same r s h =
+      let n : ℕ = left r + left s in
+      subst (λ (o : Outcome Remaining (List A)). ReadsAlike to o (listed_from item (left s) [] s)) (turn (left r) n [] r (omega arith) (omega arith))
+      (subst (λ (o : Outcome Remaining (List A)). ReadsAlike to (listed_from item n [] r) o) (turn (left s) n [] s (omega arith) (omega arith))
+      (listed_turns_same item same n [] r s h))
+
+  pub listed_same : {A : Type 0} (item : Parser Remaining A) → TurnsNeverDecide item → SameParser to item → SameParser to (listed item)
+  unfolding listed listed_by
+  listed_same {A} item turn same =
+      then_same {A = Unit {0}} (expect l.OpenSquare) (λ u. eat l.CloseSquare >>= listed_by item) (expect_same l.OpenSquare) (λ u.
+      then_same (eat l.CloseSquare) (listed_by item) (eat_same l.CloseSquare) (λ is_empty. go is_empty))
+    where
+      last : List A → Parser Remaining (List A)
+      last found = expect l.CloseSquare >> pure found
+
+      go : (t : Bool) → SameParser to (listed_by item t)
+      go true = pure_same []
+      go false =
+          then_same (λ r. listed_from item (left r) [] r) last (some_same item turn same) (λ found.
+          then_same {A = Unit {0}} (expect l.CloseSquare) (λ u. pure found) (expect_same l.CloseSquare) (λ u. pure_same found))
+
+  pub numbers_same : SameParser to (listed number32)
+  numbers_same = listed_same number32 numbers_turn (number_same 0 max_field BadNumber)
+
+  -- ---- predicates
+
+  name_same : SameParser to name
+  unfolding name
+  name_same r s h =
+      by_same (sees l.Name r || sees l.Quoted r) (sees l.Name s || sees l.Quoted s) (λ t r. if t then Ok (name_by (lexeme r) (spelling r), next r) else Err (refusal r)) r s
+      (ap (λ (t : Bool). t || sees l.Quoted r) (matches_sees to l.Name r s h) ∙ ap (λ (t : Bool). sees l.Name s || t) (matches_sees to l.Quoted r s h)) go
+    where
+      go : (t : Bool) → ReadsAlike to (if t then Ok (name_by (lexeme r) (spelling r), next r) else Err (refusal r)) (if t then Ok (name_by (lexeme s) (spelling s), next s) else Err (refusal s))
+      go true = (sym (ap (λ (k : Lexeme). name_by k (spelling r)) (matches_lexeme to r s h) ∙ ap (name_by (lexeme s)) (spelling_same r s h)), matches_next to r s h)
+      go false = token_refusal_same to r s h
+
+  pub predicate_same : SameParser to predicate
+  unfolding predicate
+  predicate_same =
+      then_same name (λ of. expect l.Over >> (number32 >>= made of)) name_same (λ of.
+      then_same {A = Unit {0}} (expect l.Over) (λ u. number32 >>= made of) (expect_same l.Over) (λ u.
+      then_same number32 (made of) (number_same 0 max_field BadNumber) (λ arity. pure_same (record { name = of; arity = arity }))))
+    where
+      made : List ℕ → ℕ → Parser Remaining Pred
+      made of arity = pure (record { name = of; arity = arity })
+
   -- ---- certificates
 
   multiplier_same : SameParser to multiplier
@@ -158,23 +169,11 @@ module _ (to : ℕ → ℕ) where
       signed : Bool → ℕ → Parser Remaining ℤ
       signed is_negative magnitude = pure (if is_negative then neg_ℤ (pos magnitude) else pos magnitude)
 
-  multipliers_turns_same : (n : ℕ) (found : List ℤ) → SameParser to (multipliers_from n found)
-  unfolding multipliers_from
-  multipliers_turns_same zero found = λ r s h. token_refusal_same to r s h
-  multipliers_turns_same (suc n) found =
-      then_same multiplier (λ x. eat l.Comma >>= more_multipliers n (found ++ x ∷ [])) multiplier_same (λ x.
-      then_same (eat l.Comma) (more_multipliers n (found ++ x ∷ [])) (eat_same l.Comma) (λ goes_on. go (found ++ x ∷ []) (multipliers_turns_same n (found ++ x ∷ [])) goes_on))
-    where
-      go : (all : List ℤ) → SameParser to (multipliers_from n all) → (t : Bool) → SameParser to (more_multipliers n all t)
-      go all rest true = rest
-      go all rest false = pure_same all
-
   multipliers_same : SameParser to (λ r. multipliers_from (left r) [] r)
   multipliers_same r s h =
-      let n : ℕ = left r + left s in
-      subst (λ (o : Outcome Remaining (List ℤ)). ReadsAlike to o (multipliers_from (left s) [] s)) (multipliers_turn (left r) n [] r (omega arith) (omega arith))
-      (subst (λ (o : Outcome Remaining (List ℤ)). ReadsAlike to (multipliers_from n [] r) o) (multipliers_turn (left s) n [] s (omega arith) (omega arith))
-      (multipliers_turns_same n [] r s h))
+      subst (λ (o : Outcome Remaining (List ℤ)). ReadsAlike to o (multipliers_from (left s) [] s)) (sym (multipliers_listed (left r) [] r))
+      (subst (λ (o : Outcome Remaining (List ℤ)). ReadsAlike to (listed_from multiplier (left r) [] r) o) (sym (multipliers_listed (left s) [] s))
+      (some_same multiplier multiplier_turn multiplier_same r s h))
 
   part_same : SameParser to part
   unfolding part
@@ -204,3 +203,11 @@ module _ (to : ℕ → ℕ) where
       go : (t : Bool) → ReadsAlike to (if t then (word rule.Find >> pure Find) r else (Given <$> certificate) r) (if t then (word rule.Find >> pure Find) s else (Given <$> certificate) s)
       go true = then_same {A = Unit {0}} (word rule.Find) (λ u. pure Find) (word_same rule.Find) (λ u. pure_same Find) r s h
       go false = then_same certificate (λ c. pure (Given c)) certificate_same (λ c. pure_same (Given c)) r s h
+
+  pub all_shown_same : SameParser to all_shown
+  unfolding all_shown
+  all_shown_same r s h = by_same (sees l.Name r) (sees l.Name s) (λ t r. if t then (word rule.Find >> pure shows.Find) r else (shows.Each <$> listed shown) r) r s (matches_sees to l.Name r s h) go
+    where
+      go : (t : Bool) → ReadsAlike to (if t then (word rule.Find >> pure shows.Find) r else (shows.Each <$> listed shown) r) (if t then (word rule.Find >> pure shows.Find) s else (shows.Each <$> listed shown) s)
+      go true = then_same {A = Unit {0}} (word rule.Find) (λ u. pure shows.Find) (word_same rule.Find) (λ u. pure_same shows.Find) r s h
+      go false = then_same (listed shown) (λ list. pure (shows.Each list)) (listed_same shown shown_turn shown_same) (λ list. pure_same (shows.Each list)) r s h

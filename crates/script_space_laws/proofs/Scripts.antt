@@ -7,6 +7,7 @@ use Rattle.case_table.specs.declared.rule_word.RuleWord.{RuleWord}
 use Rattle.case_table.specs.declared.rule_word.RuleWord.TheVariants as rule
 use Rattle.case_table.specs.Rules.{rule_case}
 use Rattle.clp_model.specs.Clauses.{Row}
+use Rattle.clp_model.specs.declared.predicate.Pred.{Pred}
 use Rattle.token_model.specs.declared.token.Lexeme.{Lexeme}
 use Rattle.token_model.specs.declared.token.Lexeme.TheVariants as l
 use Rattle.token_model.specs.declared.fault.Kind.TheVariants.{TooMany, NoVersion, Version, BadVariable, BadNumber}
@@ -23,24 +24,25 @@ use Rattle.clp_grammar.specs.Input.{Input, start, max_open, passed}
 use Rattle.clp_grammar.specs.Expressions.{expression}
 use Rattle.clp_grammar.specs.Goals.{relation_of, comparison_by, comparison}
 use Rattle.clp_grammar.specs.Evaluation.{with_value, row_of}
+use Rattle.clp_grammar.specs.Grammar.{clause}
 use Rattle.row_grammar.specs.Row.{variable_numbers, number_at, variables_fault, parts_fault, parts_fault_of, sides_fault, show_word, compared_to_show, row_over, meant, row_to_show}
 use Rattle.row_grammar.proofs.Parts.{variables_fault_node}
 use Rattle.map_model.specs.declared.shown.Shown.{Shown}
+use Rattle.map_model.specs.declared.shown.Shows.{Shows}
 use Rattle.map_model.specs.declared.step.Step.{Step}
-use Rattle.map_model.specs.declared.step.Step.TheVariants.{Unfold, DeleteFalse, Merge, Add, Drop, Project, Equate}
-use Rattle.script_grammar.specs.Fields.{word_or, word, number_within, number32}
-use Rattle.script_grammar.specs.Fields.{max_field}
-use Rattle.script_grammar.specs.Certificates.{shown}
-use Rattle.script_grammar.specs.Script.{max_steps, version_line, unfold_fields, delete_fields, merge_fields, add_fields, drop_fields, project_fields, equate_fields, rule_ahead, fields_of, step_by, step, too_many_by, past_limit, steps_from, unless_fault, script, finish, line}
+use Rattle.map_model.specs.declared.step.Step.TheVariants.{Define, Unfold, Fold, DeleteFalse, Merge, Add, Drop, Project, Equate}
+use Rattle.script_grammar.specs.Fields.{max_field, word_or, word, number_within, number32, predicate, listed}
+use Rattle.script_grammar.specs.Certificates.{shown, all_shown}
+use Rattle.script_grammar.specs.Script.{max_steps, version_line, define_fields, unfold_fields, fold_fields, delete_fields, merge_fields, add_fields, drop_fields, project_fields, equate_fields, rule_ahead, fields_of, step_by, step, too_many_by, past_limit, steps_from, unless_fault, script, finish, line}
 use Rattle.space_laws.specs.Same.{Matches, ReadsAlike}
 use Rattle.space_laws.specs.Moved.{moved_fault, moved_result, moved_head, moved, moved_parts, moved_comparison}
 use Rattle.space_laws.proofs.Meaning.{moved_option, or_moved, unless_moved, row_moved}
 use Rattle.space_laws.proofs.Reading.{SameInput, Alike, SameRule, unplaced, alike_then, same_passed, by_lexeme, pure_same as same_value, refuse_same, refusal_same, spelling_same as same_spelling, matches_next, matches_sees, fault_same, token_refusal_same}
 use Rattle.space_laws.proofs.Rules.{expression_same}
-use Rattle.space_laws.proofs.Clauses.{related_same}
+use Rattle.space_laws.proofs.Clauses.{related_same, clause_same}
 use Rattle.space_laws.proofs.Places.{same_result}
 use Rattle.script_space_laws.specs.Laws.{StepsAreTheSame, ScriptsAreTheSame, LinesAreTheSame, SpacesChangeNoScript, SpacesChangeNoLine}
-use Rattle.script_space_laws.proofs.Reading.{SameParser, then_same, pure_same, by_same, expect_same, spelling_same, word_or_same, word_same, number_same, shown_same}
+use Rattle.script_space_laws.proofs.Reading.{SameParser, then_same, pure_same, by_same, expect_same, spelling_same, word_or_same, word_same, number_same, numbers_same, predicate_same, shown_same, all_shown_same}
 
 module _ (to : ℕ → ℕ) where
   -- ---- rows
@@ -136,11 +138,44 @@ module _ (to : ℕ → ℕ) where
   shown_then : (f : Shown → Step) → SameParser to (shown >>= (λ show. ended (f show)))
   shown_then f = then_same to shown (λ show. ended (f show)) (shown_same to) (λ show. ended_same (f show))
 
+  numbers_then : {A : Type 0} (f : List ℕ → Parser Remaining A) → ((ns : List ℕ) → SameParser to (f ns)) → SameParser to (listed number32 >>= f)
+  numbers_then f same = then_same to (listed number32) f (numbers_same to) same
+
+  define_same : SameParser to define_fields
+  unfolding define_fields
+  define_same = then_same to clause (λ source. pure (Define source)) (clause_same to) (λ source. pure_same to (Define source))
+
   unfold_same : SameParser to unfold_fields
   unfolding unfold_fields
   unfold_same =
       number_then (λ id. word rule.At >> (number32 >>= (λ position. ended (Unfold id position)))) (λ id.
       word_then rule.At (number32 >>= (λ position. ended (Unfold id position))) (number_then (λ position. ended (Unfold id position)) (λ position. ended_same (Unfold id position))))
+
+  fold_same : SameParser to fold_fields
+  unfolding fold_fields
+  fold_same = number_then behind_id (λ id. word_then rule.At (listed number32 >>= behind_at id) (numbers_then (behind_at id) (λ at.
+      word_then rule.By (predicate >>= behind_by id at) (then_same to predicate (behind_by id at) (predicate_same to) (λ by.
+      word_then rule.With (listed number32 >>= behind_with id at by) (numbers_then (behind_with id at by) (λ images.
+      word_then rule.Keep (listed number32 >>= behind_keep id at by images) (numbers_then (behind_keep id at by images) (λ keep.
+      word_then rule.Show (all_shown >>= behind_show id at by images keep) (then_same to all_shown (behind_show id at by images keep) (all_shown_same to) (λ show. ended_same (Fold id at by images keep show))))))))))))
+    where
+      behind_show : ℕ → List ℕ → Pred → List ℕ → List ℕ → Shows → Parser Remaining Step
+      behind_show id at by images keep show = ended (Fold id at by images keep show)
+
+      behind_keep : ℕ → List ℕ → Pred → List ℕ → List ℕ → Parser Remaining Step
+      behind_keep id at by images keep = word rule.Show >> (all_shown >>= behind_show id at by images keep)
+
+      behind_with : ℕ → List ℕ → Pred → List ℕ → Parser Remaining Step
+      behind_with id at by images = word rule.Keep >> (listed number32 >>= behind_keep id at by images)
+
+      behind_by : ℕ → List ℕ → Pred → Parser Remaining Step
+      behind_by id at by = word rule.With >> (listed number32 >>= behind_with id at by)
+
+      behind_at : ℕ → List ℕ → Parser Remaining Step
+      behind_at id at = word rule.By >> (predicate >>= behind_by id at)
+
+      behind_id : ℕ → Parser Remaining Step
+      behind_id id = word rule.At >> (listed number32 >>= behind_at id)
 
   delete_same : SameParser to delete_fields
   unfolding delete_fields
@@ -203,7 +238,9 @@ module _ (to : ℕ → ℕ) where
 
   by_rule : (o : Option RuleWord) → SameParser to (step_by (fields_of o))
   by_rule None = no_step
+  by_rule (Some rule.Define) = passed_then define_fields define_same
   by_rule (Some rule.Unfold) = passed_then unfold_fields unfold_same
+  by_rule (Some rule.Fold) = passed_then fold_fields fold_same
   by_rule (Some rule.Delete) = passed_then delete_fields delete_same
   by_rule (Some rule.Merge) = passed_then merge_fields merge_same
   by_rule (Some rule.Add) = passed_then add_fields add_same

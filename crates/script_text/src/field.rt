@@ -2,13 +2,15 @@
 
 ghost use Rattle.std.specs.Prelude.{◌≡◌, ◌≤◌, IfOk, true};
 ghost use Rattle.token_model.specs.Remaining as token;
-ghost use Rattle.token_model.specs.Parsers.{ReadsExactly};
+ghost use Rattle.token_model.specs.Parsers.{Reads, ReadsExactly};
 ghost use Rattle.clp_parser.specs.Readable.{is_whole};
 ghost use Rattle.script_grammar.specs.Fields as spec;
 
 use case_table::{Cases, RuleWord};
+use clp_model::{Name, Pred};
 use clp_parser::{MAX_OPEN, Reader};
-use token_model::{Fault, Kind, Lexeme};
+use std::alloc::Global;
+use token_model::{Fault, Kind, Lexeme, ReadError};
 
 /// The greatest id, position and number of a variable.
 const MAX_FIELD: u64 = 4_294_967_295;
@@ -109,4 +111,27 @@ pub fn number32(reader: &mut Reader<'_>) -> Result<u32, Fault>
 {
     let number = number_within(reader, 0, MAX_FIELD, Kind::BadNumber)?;
     Ok(number as u32)
+}
+
+/// Passes a name, plain or quoted.
+#[tactic(auto, unfolding(script_grammar::specs::Fields::name))]
+fn name(alloc: Global, reader: &mut Reader<'_>) -> Result<Name, ReadError>
+    ensures { Reads (spec.name reader.old.remaining) result reader.new.remaining }
+{
+    if reader.sees(Lexeme::Name) || reader.sees(Lexeme::Quoted) {
+        reader.name(alloc)
+    } else {
+        Err(ReadError::Fault(refusal(reader)))
+    }
+}
+
+/// Passes a predicate: its name, and how many arguments it has.
+#[tactic(auto, unfolding(script_grammar::specs::Fields::predicate))]
+pub fn predicate(alloc: Global, reader: &mut Reader<'_>) -> Result<Pred, ReadError>
+    ensures { Reads (spec.predicate reader.old.remaining) result reader.new.remaining }
+{
+    let name = name(alloc, reader)?;
+    expect(reader, Lexeme::Over)?;
+    let arity = number32(reader)?;
+    Ok(Pred { name, arity })
 }

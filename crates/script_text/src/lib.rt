@@ -4,6 +4,7 @@
 
 mod certificate;
 mod field;
+mod list;
 mod reader;
 mod rule;
 

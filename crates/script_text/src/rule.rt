@@ -7,9 +7,11 @@ ghost use Rattle.token_model.specs.Parsers.{Reads, ReadsExactly};
 ghost use Rattle.script_grammar.specs.Script as spec;
 
 use crate::certificate::shown;
-use crate::field::{expect, number32, refusal, word};
+use crate::field::{expect, number32, predicate, refusal, word};
+use crate::list::{all_shown, numbers};
 use case_table::{Cases, RuleWord};
-use clp_parser::Reader;
+use clp_parser::{Ending, Reader};
+use clp_reader::clause;
 use map_model::Step;
 use row_reader::row_to_show;
 use std::alloc::Global;
@@ -39,6 +41,14 @@ fn take_rule(reader: &mut Reader<'_>) -> Option<RuleWord>
     }
 }
 
+#[tactic(auto, unfolding(script_grammar::specs::Script::define_fields))]
+fn define_fields(alloc: Global, reader: &mut Reader<'_>) -> Result<Step, ReadError>
+    ensures { Reads (spec.define_fields reader.old.remaining) result reader.new.remaining }
+{
+    let source = clause(alloc, reader, Ending::Dot)?;
+    Ok(Step::Define { source })
+}
+
 #[tactic(auto, unfolding(script_grammar::specs::Script::unfold_fields))]
 fn unfold_fields(reader: &mut Reader<'_>) -> Result<Step, Fault>
     ensures { ReadsExactly (spec.unfold_fields reader.old.remaining) result reader.new.remaining }
@@ -48,6 +58,32 @@ fn unfold_fields(reader: &mut Reader<'_>) -> Result<Step, Fault>
     let at = number32(reader)?;
     expect(reader, Lexeme::End)?;
     Ok(Step::Unfold { id, at })
+}
+
+#[tactic(auto, unfolding(script_grammar::specs::Script::fold_fields))]
+fn fold_fields(alloc: Global, reader: &mut Reader<'_>) -> Result<Step, ReadError>
+    ensures { Reads (spec.fold_fields reader.old.remaining) result reader.new.remaining }
+{
+    let id = number32(reader)?;
+    word(reader, RuleWord::At)?;
+    let at = numbers(alloc, reader)?;
+    word(reader, RuleWord::By)?;
+    let by = predicate(alloc, reader)?;
+    word(reader, RuleWord::With)?;
+    let with = numbers(alloc, reader)?;
+    word(reader, RuleWord::Keep)?;
+    let keep = numbers(alloc, reader)?;
+    word(reader, RuleWord::Show)?;
+    let show = all_shown(alloc, reader)?;
+    expect(reader, Lexeme::End)?;
+    Ok(Step::Fold {
+        id,
+        at,
+        by,
+        with,
+        keep,
+        show,
+    })
 }
 
 #[tactic(auto, unfolding(script_grammar::specs::Script::delete_fields))]
@@ -133,7 +169,9 @@ pub fn step(alloc: Global, reader: &mut Reader<'_>) -> Result<Step, ReadError>
 {
     let refusal = refusal(reader);
     match take_rule(reader) {
+        Some(RuleWord::Define) => define_fields(alloc, reader),
         Some(RuleWord::Unfold) => Ok(unfold_fields(reader)?),
+        Some(RuleWord::Fold) => fold_fields(alloc, reader),
         Some(RuleWord::Delete) => delete_fields(alloc, reader),
         Some(RuleWord::Merge) => Ok(merge_fields(reader)?),
         Some(RuleWord::Add) => add_fields(alloc, reader),
@@ -153,7 +191,9 @@ pub fn past_limit(reader: &mut Reader<'_>) -> Fault
     let refusal = refusal(reader);
     match take_rule(reader) {
         Some(
-            RuleWord::Unfold
+            RuleWord::Define
+            | RuleWord::Unfold
+            | RuleWord::Fold
             | RuleWord::Delete
             | RuleWord::Merge
             | RuleWord::Add

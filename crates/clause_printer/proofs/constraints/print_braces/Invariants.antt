@@ -3,7 +3,7 @@ use Rattle.print_model.specs.Joined.{joined}
 use Rattle.print_model.specs.Rows.{row_text}
 use Rattle.print_model.specs.Clauses.{num_text}
 use Rattle.clause_printer.specs.Loose.{before}
-use Rattle.clause_printer.proofs.clause.braces.Given as goal
+use Rattle.clause_printer.proofs.constraints.print_braces.Given as goal
 
 abbrev pub invariant-loop-r : goal.invariant-loop-r
 invariant-loop-r l =

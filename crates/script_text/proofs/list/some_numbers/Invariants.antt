@@ -1,0 +1,7 @@
+use Rattle.std.proofs.Common.{◌≡◌, ◌-◌, []}
+use Rattle.token_model.specs.Remaining as token
+use Rattle.script_grammar.specs.Fields.{number32, listed_from}
+use Rattle.script_text.proofs.list.some_numbers.Given as goal
+
+abbrev pub invariant-loop-turn : goal.invariant-loop-turn
+invariant-loop-turn l = listed_from number32 (token.left l.fn.reader.remaining) [] l.fn.reader.remaining ≡ listed_from number32 (l._turn-end - l._turn) l.found l.reader.remaining
