@@ -135,7 +135,8 @@ module _ (words : List (List ℕ)) (files : Option Files) (shelf shelf' : ℕ) (
   keeps_provability_on_files r h x program script means told known t k =
       let one = accepted output program script told t (said status.Ok (subst Ended x h) refl) (ap plan_of means) in
       let a = one.1 in
-      let short = a.program_given.short in
+      let short_program = a.program_given.short in
+      let short_script = a.script_given.short in
       record {
         program_bytes = a.program_bytes;
         program_is = a.program_given.told;
@@ -143,7 +144,7 @@ module _ (words : List (List ℕ)) (files : Option Files) (shelf shelf' : ℕ) (
         script_is = a.script_given.told;
         written = output one.0;
         after_is = one.2 ∙ ap (λ y. append_known y (output one.0)) k;
-        keeps = keeps_provability a.program_bytes a.script_bytes one.0 (omega (arith, short)) a.replays;
+        keeps = keeps_provability a.program_bytes a.script_bytes one.0 (omega (arith, short_program)) (omega (arith, short_script)) a.replays;
       }
 
   pub fills_script_on_files : (r : Status) → Ended r → r ≡ status.Ok → (program script : List ℕ) → command_of words ≡ Some (Fill program script)
@@ -151,6 +152,7 @@ module _ (words : List (List ℕ)) (files : Option Files) (shelf shelf' : ℕ) (
   fills_script_on_files r h x program script means told known t k =
       let one = accepted filled program script told t (said status.Ok (subst Ended x h) refl) (ap plan_of means) in
       let a = one.1 in
+      let short = a.script_given.short in
       record {
         program_bytes = a.program_bytes;
         program_is = a.program_given.told;
@@ -158,5 +160,5 @@ module _ (words : List (List ℕ)) (files : Option Files) (shelf shelf' : ℕ) (
         script_is = a.script_given.told;
         written = filled one.0;
         after_is = one.2 ∙ ap (λ y. append_known y (filled one.0)) k;
-        fills = fills_script a.program_bytes a.script_bytes one.0 a.replays;
+        fills = fills_script a.program_bytes a.script_bytes one.0 (omega (arith, short)) a.replays;
       }

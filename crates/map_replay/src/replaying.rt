@@ -1,6 +1,6 @@
 //! Programs and scripts from their texts.
 
-ghost use Rattle.std.specs.Prelude.{◌≡◌, ◌⊎◌, ℕ, ◌+◌, ◌-◌, ◌<◌, ◌≤◌, ◌^◌, length, take, vec_len, Ok, Err, OnOk, IfOk, IfErr};
+ghost use Rattle.std.specs.Prelude.{◌≡◌, ◌⊎◌, ℕ, ◌+◌, ◌-◌, ◌<◌, ◌≤◌, ◌^◌, length, take, vec_len, All, Ok, Err, OnOk, IfOk, IfErr};
 ghost use Rattle.clause_model.specs.Load.{sizes_of};
 ghost use Rattle.clause_loader.specs.Loaded.{program_of, clauses_in, AreStored};
 ghost use Rattle.map_model.specs.State.{start_state};
@@ -8,6 +8,7 @@ ghost use Rattle.map_model.specs.After.{run};
 ghost use Rattle.map_state.specs.Seen.{state_of};
 ghost use Rattle.replay_model.specs.Replay.{opened, scripted, replayed, output, StopsAt, StopsWithin};
 ghost use Rattle.replay_model.specs.Headline.{KeepsProvability};
+ghost use Rattle.map_replay.specs.Sources.{HasFormedSource};
 
 use crate::run::apply;
 use clause_loader::{LoadFault, Loaded, load};
@@ -63,7 +64,8 @@ pub fn open_program(alloc: Global, program: &[u8]) -> Result<State, ReplayFault>
 
 /// Carries out steps, one after another, up to the first that is refused.
 fn run_steps(state: &mut State, steps: &[Step]) -> Result<(), ReplayFault>
-    requires { length steps.now < 2 ^ 32 }
+    requires few { length steps.now < 2 ^ 32 }
+    requires sources { All HasFormedSource steps.now }
     ensures runs { OnOk result (run (state_of state.old) steps.now ≡ Ok (state_of state.new)) }
     ensures stops { IfErr result (StopsAt (state_of state.old) steps.now (state_of state.new)) }
 {
