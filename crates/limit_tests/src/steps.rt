@@ -1,3 +1,5 @@
+ghost use Rattle.map_replay.specs.Sources.{HasFormedSource};
+
 use crate::answers::whole;
 use clp_model::Limit;
 use map_replay::{Refusal, State, Step, apply, open_program};
@@ -11,7 +13,9 @@ fn program(alloc: Global) -> Result<String, AllocError> {
     clause.as_str().repeat(alloc, 4096)
 }
 
-fn merge_in(id: u32) -> Step {
+fn merge_in(id: u32) -> Step
+    ensures { HasFormedSource result }
+{
     Step::Merge {
         id,
         first: 1,
@@ -55,7 +59,10 @@ fn tells(
 
 /// Whether one step more is refused.
 fn is_full(state: &mut State) -> bool {
-    apply(state, &merge_in(100_001)).err() == Some(Refusal::TooLarge(Limit::Steps))
+    match apply(state, &merge_in(100_001)) {
+        Err(Refusal::TooLarge(limit)) => limit == Limit::Steps,
+        _ => false,
+    }
 }
 
 #[test]

@@ -9,7 +9,7 @@ use std::test::Fail;
 use text_fault::{TextError, TextFault, told};
 use token_model::{Fault, Kind, ReadError};
 
-static LINES: [(ReplayFault, &str); 8] = [
+const LINES: [(ReplayFault, &str); 9] = [
     (
         ReplayFault::Program(TextFault {
             at: 0,
@@ -49,6 +49,10 @@ static LINES: [(ReplayFault, &str); 8] = [
     (
         ReplayFault::Refused(2, Refusal::NotEqualAtoms(1, 3)),
         "refused: step 2: 21 not equal atoms 1 3\n",
+    ),
+    (
+        ReplayFault::Refused(100_000, Refusal::Unmarked(2)),
+        "refused: step 100000: 11 unmarked 2\n",
     ),
     (ReplayFault::NoMemory, ""),
 ];

@@ -19,7 +19,7 @@ const LONG_SCRIPT: &str = "bad script: longer than 16777216 bytes\n";
 
 /// The status of a call, the name of the last failed load, and the text that was written.
 #[derive(Drop)]
-struct Outcome {
+pub(crate) struct Outcome {
     status: Status,
     failed: String,
     written: Vec<u8>,
@@ -27,7 +27,7 @@ struct Outcome {
 
 /// The call of these words, which stand between spaces, on files P and S. The load and the write of
 /// these numbers fail, and the sink takes at most `most` bytes at once.
-fn call(
+pub(crate) fn call(
     alloc: Global,
     words: &str,
     files: Vec<(String, Vec<u8>)>,
@@ -66,7 +66,7 @@ fn push_file(
 }
 
 /// Files P and S, where they are there.
-fn files(
+pub(crate) fn files(
     alloc: Global,
     program: Option<&[u8]>,
     script: Option<&[u8]>,
@@ -90,7 +90,7 @@ fn padded(alloc: Global, text: &str, length: usize) -> Result<Vec<u8>, AllocErro
 }
 
 /// Whether a call has ended with this status, and this text was written.
-fn is_answer(outcome: &Outcome, status: Status, written: &str) -> bool {
+pub(crate) fn is_answer(outcome: &Outcome, status: Status, written: &str) -> bool {
     outcome.status == status && outcome.written.as_slice() == written.as_bytes()
 }
 

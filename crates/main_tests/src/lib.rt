@@ -5,6 +5,8 @@
 #[cfg(test)]
 mod calls;
 #[cfg(test)]
+mod folds;
+#[cfg(test)]
 mod outside;
 
 /// Nothing: a library needs an item.

@@ -1,8 +1,6 @@
 //! Dropping a row.
 
 use crate::stepping::{Case, is_so};
-use farkas_check::CheckFault;
-use map_replay::Refusal;
 use std::test::Fail;
 
 const PROGRAM: &str = "p(X) :- X < 1, X < 2.";
@@ -13,46 +11,43 @@ static CASES: [Case; 17] = [
     ("drop 1 row 2 show [1,1].", Ok(DROPPED)),
     ("drop 1 row 2 show find.", Ok(DROPPED)),
     ("drop 1 row 2 show [2,2].", Ok(DROPPED)),
-    ("drop 0 row 1 show find.", Err(Refusal::NoClause(0))),
-    ("drop 2 row 9 show find.", Err(Refusal::NoClause(2))),
-    ("drop 1 row 0 show find.", Err(Refusal::NoRow(0))),
-    ("drop 1 row 3 show [1].", Err(Refusal::NoRow(3))),
-    ("drop 1 row 1 show find.", Err(Refusal::Unentailed(1))),
+    ("drop 0 row 1 show find.", Err("1 no clause 0")),
+    ("drop 2 row 9 show find.", Err("1 no clause 2")),
+    ("drop 1 row 0 show find.", Err("3 no row 0")),
+    ("drop 1 row 3 show [1].", Err("3 no row 3")),
+    ("drop 1 row 1 show find.", Err("16 unentailed 1")),
     (
         "drop 1 row 2 show [1,1]/[1,1].",
-        Err(Refusal::BadMultipliers(1, CheckFault::Form)),
+        Err("17 bad multipliers 1 form"),
     ),
     (
         "drop 1 row 2 show [1]/[1].",
-        Err(Refusal::BadMultipliers(1, CheckFault::Form)),
+        Err("17 bad multipliers 1 form"),
     ),
-    (
-        "drop 1 row 2 show [1].",
-        Err(Refusal::BadMultipliers(1, CheckFault::Count)),
-    ),
+    ("drop 1 row 2 show [1].", Err("17 bad multipliers 1 count")),
     (
         "drop 1 row 2 show [1,-1,1].",
-        Err(Refusal::BadMultipliers(1, CheckFault::Count)),
+        Err("17 bad multipliers 1 count"),
     ),
     (
         "drop 1 row 2 show [1,-1].",
-        Err(Refusal::BadMultipliers(1, CheckFault::Negative)),
+        Err("17 bad multipliers 1 negative"),
     ),
     (
         "drop 1 row 2 show [-1,1].",
-        Err(Refusal::BadMultipliers(1, CheckFault::Negative)),
+        Err("17 bad multipliers 1 negative"),
     ),
     (
         "drop 1 row 2 show [1,2].",
-        Err(Refusal::BadMultipliers(1, CheckFault::NotConstant)),
+        Err("17 bad multipliers 1 not constant"),
     ),
     (
         "drop 1 row 1 show [1,1].",
-        Err(Refusal::BadMultipliers(1, CheckFault::WrongSign)),
+        Err("17 bad multipliers 1 wrong sign"),
     ),
     (
         "drop 1 row 2 show [0,0].",
-        Err(Refusal::BadMultipliers(1, CheckFault::WrongSign)),
+        Err("17 bad multipliers 1 wrong sign"),
     ),
 ];
 

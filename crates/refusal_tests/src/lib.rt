@@ -6,11 +6,19 @@
 #[cfg(test)]
 mod added;
 #[cfg(test)]
+mod defined;
+#[cfg(test)]
 mod deleted;
 #[cfg(test)]
 mod dropped;
 #[cfg(test)]
 mod equated;
+#[cfg(test)]
+mod folded;
+#[cfg(test)]
+mod folded_after;
+#[cfg(test)]
+mod folded_rows;
 #[cfg(test)]
 mod merged;
 #[cfg(test)]

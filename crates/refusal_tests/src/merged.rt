@@ -1,25 +1,21 @@
 //! Merging two atoms.
 
 use crate::stepping::{Case, is_so};
-use map_replay::Refusal;
 use std::test::Fail;
 
 const PROGRAM: &str = "p(X) :- {X < 3}, q(X,[1]), r, q(X,[1]), q(X,[2]).";
 
 static CASES: [Case; 10] = [
-    ("merge 1 at 1,3.", Err(Refusal::NotEqualAtoms(1, 3))),
-    ("merge 1 at 1,2.", Err(Refusal::NotEqualAtoms(1, 2))),
-    ("merge 1 at 2,2.", Err(Refusal::RepeatedPosition(2))),
-    ("merge 1 at 0,9.", Err(Refusal::NoAtom(0))),
-    ("merge 1 at 9,0.", Err(Refusal::NoAtom(9))),
-    ("merge 1 at 1,5.", Err(Refusal::NoAtom(5))),
-    ("merge 1 at 5,5.", Err(Refusal::NoAtom(5))),
-    ("merge 0 at 1,2.", Err(Refusal::NoClause(0))),
-    ("merge 2 at 1,1.", Err(Refusal::NoClause(2))),
-    (
-        "merge 4294967295 at 1,1.",
-        Err(Refusal::NoClause(4_294_967_295)),
-    ),
+    ("merge 1 at 1,3.", Err("21 not equal atoms 1 3")),
+    ("merge 1 at 1,2.", Err("21 not equal atoms 1 2")),
+    ("merge 1 at 2,2.", Err("4 repeated position 2")),
+    ("merge 1 at 0,9.", Err("2 no atom 0")),
+    ("merge 1 at 9,0.", Err("2 no atom 9")),
+    ("merge 1 at 1,5.", Err("2 no atom 5")),
+    ("merge 1 at 5,5.", Err("2 no atom 5")),
+    ("merge 0 at 1,2.", Err("1 no clause 0")),
+    ("merge 2 at 1,1.", Err("1 no clause 2")),
+    ("merge 4294967295 at 1,1.", Err("1 no clause 4294967295")),
 ];
 
 /// The same atom with a variable that is a number.

@@ -5,11 +5,14 @@ ghost use Rattle.clause_model.specs.Load.{sizes_of};
 ghost use Rattle.clause_loader.specs.Loaded.{program_of, AreStored};
 ghost use Rattle.map_state.specs.Seen.{state_of};
 ghost use Rattle.map_state.specs.Changes.{IsChange};
+ghost use Rattle.map_replay.specs.Sources.{HasFormedSource};
 
 use clause_core::copy_clause;
 use clp_model::{Name, Pred};
 use clp_syntax::{Loaded, TextError, load, read_program};
-use map_replay::{Change, Made, Refusal, ReplayFault, State, Step, apply, open_program, start};
+use map_replay::{
+    Change, Made, Refusal, ReplayFault, State, Step, apply, open_program, refusal_text, start,
+};
 use sqlite_items::Items;
 use std::alloc::Global;
 use std::test::Fail;
@@ -28,7 +31,9 @@ fn is_so(state: &State, wanted: &Seen) -> Result<bool, NoMemory> {
     )
 }
 
-fn merge_in(id: u32) -> Step {
+fn merge_in(id: u32) -> Step
+    ensures { HasFormedSource result }
+{
     Step::Merge {
         id,
         first: 1,
@@ -55,9 +60,19 @@ fn has_initial(state: &State, arity: u32) -> Result<bool, NoMemory> {
     Ok(state.is_initial(&Pred { name, arity }))
 }
 
-/// Whether a merge is accepted, or refused by this, and the state is so after it.
-fn merges(state: &mut State, refusal: Option<Refusal>, wanted: &Seen) -> Result<bool, NoMemory> {
-    Ok(apply(state, &merge_in(1)).err() == refusal && is_so(state, wanted)?)
+/// The line of the refusal of a merge, empty where it is accepted.
+fn refusal_of_merge(state: &mut State) -> Result<String, NoMemory> {
+    let mut line = String::new(state.alloc());
+    if let Err(refusal) = apply(state, &merge_in(1)) {
+        refusal_text(state.alloc(), &refusal, &mut line)?;
+    }
+    Ok(line)
+}
+
+/// Whether a merge is refused with this line, or accepted where it is empty, and the state is so after it.
+fn merges(state: &mut State, line: &str, wanted: &Seen) -> Result<bool, NoMemory> {
+    let found = refusal_of_merge(state)?;
+    Ok(found.as_str() == line && is_so(state, wanted)?)
 }
 
 /// The state after the merge.
@@ -74,8 +89,8 @@ fn has_entries(state: &State) -> bool {
 
 /// Whether the state tells what it should after the merge, and after a refusal the same.
 fn tells(state: &mut State) -> Result<bool, NoMemory> {
-    let merged = merges(state, None, &MERGED)?;
-    let refused = merges(state, Some(Refusal::NoClause(1)), &MERGED)?;
+    let merged = merges(state, "", &MERGED)?;
+    let refused = merges(state, "1 no clause 1", &MERGED)?;
     let initials = has_initial(state, 1)? && !has_initial(state, 2)?;
     Ok(merged && refused && initials && has_entries(state))
 }

@@ -6,6 +6,8 @@
 #[cfg(test)]
 mod faults;
 #[cfg(test)]
+mod forming;
+#[cfg(test)]
 mod limit;
 #[cfg(test)]
 mod lines;

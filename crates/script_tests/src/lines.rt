@@ -47,8 +47,9 @@ fn read(alloc: Global, line: &str) -> Result<Option<Step>, TextError> {
     read_step(alloc, line.as_bytes())
 }
 
-fn first_fault(found: Result<Option<Step>, TextError>) -> Option<TextFault> {
-    match found {
+/// The first fault of a line.
+pub fn first_fault_in(alloc: Global, line: &str) -> Option<TextFault> {
+    match read(alloc, line) {
         Err(TextError::Fault(fault)) => Some(fault),
         _ => None,
     }
@@ -73,7 +74,7 @@ fn finds_the_first_fault_of_a_line(rt: HostRuntime) {
             at: *at,
             kind: *kind,
         };
-        assert_eq!(rt; first_fault(read(rt.alloc(), line)), Some(wanted), "{line}");
+        assert_eq!(rt; first_fault_in(rt.alloc(), line), Some(wanted), "{line}");
     }
 }
 

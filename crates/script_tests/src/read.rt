@@ -7,7 +7,7 @@ use std::test::Fail;
 /// What follows the version line, and the lines that its steps are printed as.
 type Case = (&'static str, &'static str);
 
-static CASES: [Case; 38] = [
+static CASES: [Case; 49] = [
     ("", ""),
     ("merge 1 at 2,3.", "merge 1 at 2,3.\n"),
     (
@@ -19,6 +19,46 @@ static CASES: [Case; 38] = [
         "unfold 12 at 3.\nunfold 0 at 4294967295.\n",
     ),
     ("unfold%\n1/* at */at/**/2.%", "unfold 1 at 2.\n"),
+    // definitions: the variables of one are its own, and are numbered as they are first met
+    ("define p.", "define p.\n"),
+    ("define 'a b'(Y,X).", "define 'a b'(V1,V2).\n"),
+    (
+        "define n(X) :- {Y > 3}, q(Z,X,Y).",
+        "define n(V1) :- {-V2 + 3 < 0}, q(V3,V1,V2).\n",
+    ),
+    (
+        "define n(X) :- q(X), {num(X)}, true.",
+        "define n(V1) :- {num(V1)}, q(V1).\n",
+    ),
+    (
+        "define n(X) :- X = [Y|Z], q(_,Z).",
+        "define n(V1) :- V1 = [V2|V3], q(V4,V3).\n",
+    ),
+    (
+        "define\tn(X)%\n:-q(X)/* . */. define m(Y) :- q(Y).",
+        "define n(V1) :- q(V1).\ndefine m(V1) :- q(V1).\n",
+    ),
+    // folds
+    (
+        "fold 1 at [2] by n/1 with [3] keep [4] show find.",
+        "fold 1 at [2] by n/1 with [3] keep [4] show find.\n",
+    ),
+    (
+        "fold 01 at[3 , 2]by n / 02 with[ ]keep[1]show[ ].",
+        "fold 1 at [3,2] by n/2 with [] keep [1] show [].\n",
+    ),
+    (
+        "fold 4294967295 at [] by 'n'/4294967295 with [4294967295,0] keep [] show [find].",
+        "fold 4294967295 at [] by n/4294967295 with [4294967295,0] keep [] show [find].\n",
+    ),
+    (
+        "fold 1 at [1] by '[]'/0 with [] keep [2,2] show [[1],find,[1,-2]/[-0,3]].",
+        "fold 1 at [1] by '[]'/0 with [] keep [2,2] show [[1],find,[1,-2]/[0,3]].\n",
+    ),
+    (
+        "fold 1 at [1] by fold/1 with [2]/* the rows\n*/keep%\n[ 3,4]show find .",
+        "fold 1 at [1] by fold/1 with [2] keep [3,4] show find.\n",
+    ),
     // what shows a row
     ("delete 3 false show find.", "delete 3 false show find.\n"),
     ("delete 3 false show [1].", "delete 3 false show [1].\n"),

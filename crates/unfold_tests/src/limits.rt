@@ -85,6 +85,14 @@ fn text_of(alloc: Global, words: &Words) -> Result<String, AllocError> {
     Ok(text)
 }
 
+/// Whether a step is refused by this limit.
+fn is_past(found: &Result<Step, Refusal>, limit: Limit) -> bool {
+    match found {
+        Err(Refusal::TooLarge(past)) => *past == limit,
+        _ => false,
+    }
+}
+
 /// Whether unfolding the first clause at its first atom is accepted, or refused by this limit with the program as it
 /// was.
 fn ends_so(alloc: Global, state: &mut State, limit: Option<Limit>) -> Result<bool, NoMemory> {
@@ -93,7 +101,7 @@ fn ends_so(alloc: Global, state: &mut State, limit: Option<Limit>) -> Result<boo
     match limit {
         None => Ok(found.is_ok() && state.steps() == 1),
         Some(limit) => Ok(
-            found.err() == Some(Refusal::TooLarge(limit))
+            is_past(&found, limit)
                 && printed(alloc, state)?.as_str() == before.as_str()
                 && state.history().is_empty(),
         ),

@@ -1,36 +1,47 @@
 //! Unfoldings that are refused: the state is as it was.
 
+ghost use Rattle.map_replay.specs.Sources.{HasFormedSource};
+
 use crate::building::{begun, is_one_unfolding, printed};
-use map_replay::{Refusal, State, Step, apply};
+use map_replay::{State, Step, apply, refusal_text};
 use std::alloc::Global;
 use std::test::Fail;
 use term_store::NoMemory;
 
 const PROGRAM: &str = "p :- q, r. q.";
 
-/// The clause and the position that are unfolded, and why it is refused.
-type Case = (u32, u32, Refusal);
+/// The clause and the position that are unfolded, and the line of the refusal.
+type Case = (u32, u32, &'static str);
 
 static CASES: [Case; 7] = [
-    (0, 1, Refusal::NoClause(0)),
-    (3, 1, Refusal::NoClause(3)),
-    (4_294_967_295, 0, Refusal::NoClause(4_294_967_295)),
-    (1, 0, Refusal::NoAtom(0)),
-    (1, 3, Refusal::NoAtom(3)),
-    (1, 4_294_967_295, Refusal::NoAtom(4_294_967_295)),
-    (2, 1, Refusal::NoAtom(1)),
+    (0, 1, "1 no clause 0"),
+    (3, 1, "1 no clause 3"),
+    (4_294_967_295, 0, "1 no clause 4294967295"),
+    (1, 0, "2 no atom 0"),
+    (1, 3, "2 no atom 3"),
+    (1, 4_294_967_295, "2 no atom 4294967295"),
+    (2, 1, "2 no atom 1"),
 ];
 
-/// Whether a step is refused by this, and the program, the history, the next id and the nodes are as before.
-fn is_refused(
-    alloc: Global,
-    state: &mut State,
-    step: &Step,
-    refusal: Refusal,
-) -> Result<bool, NoMemory> {
+/// Whether a step is refused with this line.
+fn refuses_with(alloc: Global, state: &mut State, step: &Step, line: &str) -> Result<bool, NoMemory>
+    requires { HasFormedSource step.now }
+{
+    let Err(refusal) = apply(state, step) else {
+        return Ok(false);
+    };
+    let mut text = String::new(alloc);
+    refusal_text(alloc, &refusal, &mut text)?;
+    Ok(text.as_str() == line)
+}
+
+/// Whether a step is refused with this line, and the program, the history, the next id and the nodes are as before.
+fn is_refused(alloc: Global, state: &mut State, step: &Step, line: &str) -> Result<bool, NoMemory>
+    requires { HasFormedSource step.now }
+{
     let before = printed(alloc, state)?;
     let counts = (state.steps(), state.next_id(), state.nodes());
-    let refused = apply(state, step).err() == Some(refusal);
+    let refused = refuses_with(alloc, state, step, line)?;
     let after = printed(alloc, state)?;
     Ok(
         refused
@@ -40,10 +51,10 @@ fn is_refused(
 }
 
 fn is_so(alloc: Global, case: &Case) -> Result<bool, NoMemory> {
-    let (id, at, refusal) = *case;
+    let (id, at, line) = *case;
     match begun(alloc, PROGRAM) {
         Some(mut state) => Ok(
-            is_refused(alloc, &mut state, &Step::Unfold { id, at }, refusal)?
+            is_refused(alloc, &mut state, &Step::Unfold { id, at }, line)?
                 && state.history().is_empty(),
         ),
         None => Ok(false),
@@ -67,7 +78,7 @@ fn refuses_dead(alloc: Global) -> Result<bool, NoMemory> {
     let accepted = apply(&mut state, &step).is_ok();
     Ok(
         accepted
-            && is_refused(alloc, &mut state, &step, Refusal::NoClause(1))?
+            && is_refused(alloc, &mut state, &step, "1 no clause 1")?
             && is_one_unfolding(state.history()),
     )
 }
