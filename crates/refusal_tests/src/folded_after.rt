@@ -314,36 +314,39 @@ fn between(alloc: Global, count: usize) -> Result<String, NoMemory> {
     )
 }
 
+/// Whether a fold in a clause with so many rows below a variable and above it, all of which are kept, is refused so.
+fn is_refused_between(
+    alloc: Global,
+    count: u32,
+    show: &str,
+    refusal: &str,
+) -> Result<bool, NoMemory> {
+    let program = between(alloc, count as usize)?;
+    let keep = numbers(alloc, count.saturating_mul(2))?;
+    let step = joined(
+        alloc,
+        &[
+            "fold 1 at [1] by n/1 with [] keep [",
+            keep.as_str(),
+            "] show ",
+            show,
+            ".",
+        ],
+    )?;
+    comes_to(
+        alloc,
+        program.as_str(),
+        "define n(X) :- p(X), {X > 0}.",
+        step.as_str(),
+        Err(refusal),
+    )
+}
+
 /// The finder meets more than 1,024 rows, or does not; in front of it stands a place that decides before.
 #[test]
 fn chains_have_a_limit(rt: HostRuntime) -> Result<(), Fail> {
-    for (count, show, refusal) in [
-        (33, "find", "24 too large chain"),
-        (33, "[[1]]", "17 bad multipliers 1 count"),
-        (31, "find", "16 unentailed 1"),
-    ] {
-        let program = between(rt.alloc(), count)?;
-        let keep = numbers(rt.alloc(), if count == 33 { 66 } else { 62 })?;
-        let step = joined(
-            rt.alloc(),
-            &[
-                "fold 1 at [1] by n/1 with [] keep [",
-                keep.as_str(),
-                "] show ",
-                show,
-                ".",
-            ],
-        )?;
-        assert!(rt;
-            comes_to(
-                rt.alloc(),
-                program.as_str(),
-                "define n(X) :- p(X), {X > 0}.",
-                step.as_str(),
-                Err(refusal)
-            )?,
-            "{count} {show}"
-        );
-    }
+    assert!(rt; is_refused_between(rt.alloc(), 33, "find", "24 too large chain")?);
+    assert!(rt; is_refused_between(rt.alloc(), 33, "[[1]]", "17 bad multipliers 1 count")?);
+    assert!(rt; is_refused_between(rt.alloc(), 31, "find", "16 unentailed 1")?);
     Ok(())
 }
