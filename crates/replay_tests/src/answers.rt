@@ -28,6 +28,23 @@ fn append_run(
     }
 }
 
+/// Appends what becomes of a script on a program.
+fn append_answer(
+    alloc: Global,
+    program: &[u8],
+    script: &[u8],
+    text: &mut String,
+) -> Result<(), NoMemory>
+    requires program { length program.now < 2 ^ 32 }
+    requires script { length script.now < 2 ^ 32 }
+{
+    match open_program(alloc, program) {
+        Ok(mut state) => append_run(alloc, &mut state, script, text),
+        Err(ReplayFault::NoMemory) => Err(NoMemory),
+        Err(_fault) => Ok(text.push_str("bad program")?),
+    }
+}
+
 fn answer(alloc: Global, program: &[u8], steps: &str) -> Result<String, NoMemory>
     requires program { length program.now < 2 ^ 32 }
     requires steps { length steps.now < 4096 }
@@ -35,11 +52,7 @@ fn answer(alloc: Global, program: &[u8], steps: &str) -> Result<String, NoMemory
     let mut script = String::from_str(alloc, "map script 1.\n")?;
     script.push_str(steps)?;
     let mut text = String::new(alloc);
-    match open_program(alloc, program) {
-        Ok(mut state) => append_run(alloc, &mut state, script.as_bytes(), &mut text)?,
-        Err(ReplayFault::NoMemory) => return Err(NoMemory),
-        Err(_) => text.push_str("bad program")?,
-    }
+    append_answer(alloc, program, script.as_bytes(), &mut text)?;
     Ok(text)
 }
 

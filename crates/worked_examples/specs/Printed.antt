@@ -6,7 +6,7 @@ use Rattle.clp_model.specs.Clauses.{Clause}
 use Rattle.clp_model.specs.Predicates.{initial_predicates}
 use Rattle.print_model.specs.Clauses.{clause_text}
 use Rattle.map_model.specs.declared.step.Step.TheVariants.{Unfold, Merge}
-use Rattle.replay_model.specs.Headline.{definitions_of}
+use Rattle.map_model.specs.Defined.{definitions_of}
 use Rattle.worked_examples.specs.Samples.{f, p, q, a, rule, one_goal, fact}
 
 -- the text of p(V1) :- q(V1), with a line feed at the end
